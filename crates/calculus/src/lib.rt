@@ -1,0 +1,1 @@
+// The calculus: definitions for now; see specs/.
