@@ -1,0 +1,14 @@
+pub mod Testing
+pub mod Trailing
+pub mod Meaning
+pub mod Invariant
+pub mod Models
+pub mod Entering
+pub mod Analysis
+pub mod Room
+pub mod Stepping
+pub mod Handing
+pub mod Distinct
+pub mod Soundness
+pub mod Ruling
+pub mod Bounding
