@@ -68,8 +68,10 @@ all-reasoned-up-to store before [] n h = tt
 all-reasoned-up-to store before (e ∷ t) n h =
     let rest = all-reasoned-up-to store (before ++ e ∷ []) t n (h .1) in
     cond-both (leb (e .level) n) (e ∷ up-to n t) (up-to n t) (All-reasoned store (up-to n before))
-    (λ q. (reasoned-up-to store before n (e .content) (e .level) (leb-true (e .level) n q) (h .0),
-    subst (λ u. All-reasoned store u (up-to n t)) (up-to-append n before e ∙ ap (λ u. up-to n before ++ u) (cond-true (leb (e .level) n) (e ∷ []) [] q)) rest))
+    (λ q. (
+      reasoned-up-to store before n (e .content) (e .level) (leb-true (e .level) n q) (h .0),
+      subst (λ u. All-reasoned store u (up-to n t)) (up-to-append n before e ∙ ap (λ u. up-to n before ++ u) (cond-true (leb (e .level) n) (e ∷ []) [] q)) rest,
+    ))
     (λ q. subst (λ u. All-reasoned store u (up-to n t)) (up-to-append n before e ∙ ap (λ u. up-to n before ++ u) (cond-false (leb (e .level) n) (e ∷ []) [] q) ∙ append-nil (up-to n before)) rest)
   where
     append-nil : (u : List Entry) → u ++ [] ≡ u
@@ -302,11 +304,13 @@ module _ (K : Kind) (L : Lawful K) where
   tame-by-step s held′ h (Jump l) = λ p r _ _ il _.
       let next = top-of K s (others l (s .open-clause)) in
       let q = last-clause (s .clauses) (record { literals = s .open-clause; rule = false }) in (
-        λ _. resumed-tame s h next (Literal l (Propagated (length (s .clauses) + 1))) next r tt
-            (q .0, subst (λ ls. holds-literal l ls ≡ true) (sym (q .1)) il,
-            subst (λ ls. others-false (up-to next (up-to next (s .trail))) l ls ≡ true) (sym (q .1))
-            (subst (λ v. others-false v l (s .open-clause) ≡ true) (sym (up-to-twice next next (s .trail) (omega arith)))
-            (others-below K (s .model) (s .switches) (s .denominator) (s .clauses) (s .trail) (held′ .core) l (s .open-clause) (opened K L s held′ p .0)))),
+        λ _. resumed-tame s h next (Literal l (Propagated (length (s .clauses) + 1))) next r tt (
+          q .0,
+          subst (λ ls. holds-literal l ls ≡ true) (sym (q .1)) il,
+          subst (λ ls. others-false (up-to next (up-to next (s .trail))) l ls ≡ true) (sym (q .1))
+              (subst (λ v. others-false v l (s .open-clause) ≡ true) (sym (up-to-twice next next (s .trail) (omega arith)))
+              (others-below K (s .model) (s .switches) (s .denominator) (s .clauses) (s .trail) (held′ .core) l (s .open-clause) (opened K L s held′ p .0))),
+        ),
         λ _ _. resumed-tame s h (top-of K s (s .open-clause) - 1) (Literal l Chosen) _ r tt tt,
       )
   tame-by-step s held′ h Concede = λ _ _. closed-tame s h _ refl

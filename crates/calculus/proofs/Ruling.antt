@@ -90,8 +90,12 @@ module _ (K : Kind) where
       let at-top : false-at (s .trail) l ≡ top = eqb-true (false-at (s .trail) l) top (p .1) in
       let low : false-at (s .trail) l ≤ choices (s .trail) = level-of-false K (s .model) (s .switches) (s .denominator) (s .clauses) (s .trail) (h .core) l in (
         λ y _. inl (ltb-true next top y, refl),
-        λ _ y _. inr (top - 1, omega arith, subst (λ k. all-read (s .trail) k (s .open-clause) ≡ true) (back above) y,
-            ap (λ k. enter (up-to (top - 1) (s .trail)) (Literal l Chosen) (k + 1)) (count-up-to K (s .model) (s .switches) (s .denominator) (s .clauses) (s .trail) (top - 1) (omega arith) (h .core))),
+        λ _ y _. inr (
+          top - 1,
+          omega arith,
+          subst (λ k. all-read (s .trail) k (s .open-clause) ≡ true) (back above) y,
+          ap (λ k. enter (up-to (top - 1) (s .trail)) (Literal l Chosen) (k + 1)) (count-up-to K (s .model) (s .switches) (s .denominator) (s .clauses) (s .trail) (top - 1) (omega arith) (h .core)),
+        ),
       ))
     where
       s : State K

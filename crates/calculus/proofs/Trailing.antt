@@ -148,8 +148,6 @@ level-up-to p x k t h s =
     let q = found Q p (up-to k t) (up-to-all Q k t (all-weaker (λ e. (p : Content → Bool) → Exclusive p → p (e .content) ≡ true → entry-for p t ≡ e) (λ e. e .level ≤ k → Q e) (λ e f l. (l, f p x)) t (first t h))) s in
     subst (λ e. e .level ≤ k) (sym (q .0 .1 (q .1))) (q .0 .0)
 
-
-
 pub choices-push : (t : List Entry) (e : Entry) → choices (t ++ e ∷ []) ≡ choices t + cond (choice (e .content)) 1 0
 choices-push [] e = omega arith
 choices-push (f ∷ t) e = ap (λ n. cond (choice (f .content)) 1 0 + n) (choices-push t e) ∙ sym (add-assoc _ (choices t) _)

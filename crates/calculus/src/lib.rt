@@ -35,7 +35,7 @@ pub trait Theory: Sized {
 
     ghost model: { Self → kind .Model };
 
-    ghost lawful: { Lawful kind };
+    law lawful: { Lawful kind };
 
     // As it begins, without measures and atoms.
     fn begin() -> Self

@@ -162,8 +162,14 @@ impl TheoryFault {
         ensures { λ r. ⌜ r ≡ theory-code self ⌝ }
     {
         match self {
-            TheoryFault::Input(c, layer) => Code { cause: c.number(), layer },
-            TheoryFault::State(c, layer) => Code { cause: c.number(), layer },
+            TheoryFault::Input(c, layer) => Code {
+                cause: c.number(),
+                layer,
+            },
+            TheoryFault::State(c, layer) => Code {
+                cause: c.number(),
+                layer,
+            },
         }
     }
 
@@ -183,8 +189,14 @@ impl SessionFault {
         ensures { λ r. ⌜ r ≡ session-code self ⌝ }
     {
         match self {
-            SessionFault::Input(c) => Code { cause: c.number(), layer: 0 },
-            SessionFault::State(c) => Code { cause: c.number(), layer: 0 },
+            SessionFault::Input(c) => Code {
+                cause: c.number(),
+                layer: 0,
+            },
+            SessionFault::State(c) => Code {
+                cause: c.number(),
+                layer: 0,
+            },
             SessionFault::Theory(f) => f.code(),
         }
     }
@@ -195,7 +207,10 @@ impl FileFault {
         ensures { λ r. ⌜ r ≡ file-code self ⌝ }
     {
         match self {
-            FileFault::Input(c) => Code { cause: c.number(), layer: 0 },
+            FileFault::Input(c) => Code {
+                cause: c.number(),
+                layer: 0,
+            },
             FileFault::Session(f) => f.code(),
         }
     }

@@ -5,7 +5,7 @@ use Rattle.calculus.proofs.law.Needs as need
 
 pub returns : need.returns
 returns g c = record {
-  sound = sound (g .T·Theory .kind) (g .T·Theory .lawful);
-  bounded = bounded (g .T·Theory .kind) (g .T·Theory .lawful);
-  rules = rules-hold (g .T·Theory .kind) (g .T·Theory .lawful);
+  sound = sound (g .T·Theory .kind) (g .T·Theory·met .lawful);
+  bounded = bounded (g .T·Theory .kind) (g .T·Theory·met .lawful);
+  rules = rules-hold (g .T·Theory .kind) (g .T·Theory·met .lawful);
 }
