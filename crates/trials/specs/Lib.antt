@@ -1,0 +1,4 @@
+pub mod Signs
+pub mod Trials
+pub mod Runs
+pub mod Refusals
