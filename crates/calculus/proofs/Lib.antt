@@ -1,3 +1,5 @@
+pub mod Tabling
+pub mod Looping
 pub mod Testing
 pub mod Trailing
 pub mod Meaning

@@ -2,11 +2,13 @@
 // lawful theory. The states, the calls and what each call does are definitions, in specs/.
 ghost use mathlib.Core.Path.{_≡_};
 ghost use Rattle.calculus.specs.Kinds.{Kind, Lawful};
-ghost use Rattle.calculus.specs.Questions.{Moves, in-limits, says-mentioned, says-true, says-admitted};
+ghost use Rattle.calculus.specs.Questions.{Moves, says-mentioned, says-true, says-admitted};
 ghost use Rattle.calculus.specs.Sound.{Every-run-sound};
 ghost use Rattle.calculus.specs.Bounds.{Every-run-bounded};
 ghost use Rattle.calculus.specs.Rules.{Rules-hold};
 use faults::TheoryFault;
+
+pub mod limits;
 
 // Whether values are admitted; else the layer of the pile that says no.
 #[derive(Clone, Copy, PartialEq, Eq, Debug)]

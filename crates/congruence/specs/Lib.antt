@@ -1,0 +1,3 @@
+pub mod Applications
+pub mod Congruences
+pub mod Views
