@@ -3,7 +3,7 @@
 ghost use mathlib.Core.Path.{_≡_};
 ghost use Rattle.faults.specs.declared.SessionFault.the-variants.{Theory};
 ghost use Rattle.faults.specs.declared.FileFault.the-variants.{Session};
-ghost use Rattle.faults.specs.Causes.{input-number, state-number, theory-code, session-code, file-code, one-lower, raised};
+ghost use Rattle.faults.specs.Causes.{coded, input-number, state-number, theory-code, session-code, file-code, one-lower, raised};
 
 // The causes in the input, in their order, numbered from 1.
 #[derive(Clone, Copy, PartialEq, Eq, Debug)]
@@ -68,6 +68,14 @@ pub enum StateCause {
 pub struct Code {
     pub cause: u8,
     pub layer: u8,
+}
+
+impl Code {
+    pub fn new(cause: u8, layer: u8) -> Code
+        ensures { λ r. ⌜ r ≡ coded cause layer ⌝ }
+    {
+        Code { cause, layer }
+    }
 }
 
 // A theory's refusal, with the layer of the pile of theories that it comes from, 1 for the top.
@@ -162,14 +170,8 @@ impl TheoryFault {
         ensures { λ r. ⌜ r ≡ theory-code self ⌝ }
     {
         match self {
-            TheoryFault::Input(c, layer) => Code {
-                cause: c.number(),
-                layer,
-            },
-            TheoryFault::State(c, layer) => Code {
-                cause: c.number(),
-                layer,
-            },
+            TheoryFault::Input(c, layer) => Code::new(c.number(), layer),
+            TheoryFault::State(c, layer) => Code::new(c.number(), layer),
         }
     }
 
@@ -189,14 +191,8 @@ impl SessionFault {
         ensures { λ r. ⌜ r ≡ session-code self ⌝ }
     {
         match self {
-            SessionFault::Input(c) => Code {
-                cause: c.number(),
-                layer: 0,
-            },
-            SessionFault::State(c) => Code {
-                cause: c.number(),
-                layer: 0,
-            },
+            SessionFault::Input(c) => Code::new(c.number(), 0),
+            SessionFault::State(c) => Code::new(c.number(), 0),
             SessionFault::Theory(f) => f.code(),
         }
     }
@@ -207,10 +203,7 @@ impl FileFault {
         ensures { λ r. ⌜ r ≡ file-code self ⌝ }
     {
         match self {
-            FileFault::Input(c) => Code {
-                cause: c.number(),
-                layer: 0,
-            },
+            FileFault::Input(c) => Code::new(c.number(), 0),
             FileFault::Session(f) => f.code(),
         }
     }
