@@ -4,9 +4,9 @@ use mathlib.Core.Bool.{Bool, true, false}
 use mathlib.Core.List.{List}
 use Prim.Native.Nat.{ℕ, _+_, _<_, _≤_}
 use native.Mathlib.Omega.{arith}
-use lib.ListN.{length, getD, drop}
+use lib.ListN.{length, getD}
 use Rattle.calculus.specs.Lists.{every}
-use Rattle.calculus.proofs.Looping.{every-here, every-skip, every-none}
+use Rattle.calculus.proofs.Looping.{Unfailed, every-stop, every-more, every-end}
 use Rattle.calculus.proofs.Tabling.{length-table, at-table}
 use Rattle.congruence.specs.declared.application as code
 use Rattle.congruence.specs.declared.applications as table
@@ -25,11 +25,11 @@ module _ (t : table.Applications.Applications) where
 
   -- going through the rows
   module _ (p : Application → Bool) (k : ℕ) where
-    pub rows-skip : (a : code.Application.Application) → k < t .len → p (application-of (getD (t .rows) k a)) ≡ true → every p (drop k (applications-of t)) ≡ every p (drop (k + 1) (applications-of t))
-    rows-skip a h y = every-skip p (applications-of t) k no-application (omega (arith, count)) (ap p (row-at k a h) ∙ y)
+    pub rows-more : (a : code.Application.Application) → k < t .len → p (application-of (getD (t .rows) k a)) ≡ true → Unfailed p (applications-of t) k → Unfailed p (applications-of t) (k + 1)
+    rows-more a h y = every-more p (applications-of t) k no-application (omega (arith, count)) (ap p (row-at k a h) ∙ y)
 
-    pub rows-here : (a : code.Application.Application) → k < t .len → p (application-of (getD (t .rows) k a)) ≡ false → every p (drop k (applications-of t)) ≡ false
-    rows-here a h y = every-here p (applications-of t) k no-application (omega (arith, count)) (ap p (row-at k a h) ∙ y)
+    pub rows-stop : (a : code.Application.Application) → k < t .len → p (application-of (getD (t .rows) k a)) ≡ false → Unfailed p (applications-of t) k → every p (applications-of t) ≡ false
+    rows-stop a h y = every-stop p (applications-of t) k no-application (omega (arith, count)) (ap p (row-at k a h) ∙ y)
 
-    pub rows-none : t .len ≤ k → every p (drop k (applications-of t)) ≡ true
-    rows-none h = every-none p (applications-of t) k (omega (arith, count))
+    pub rows-end : t .len ≤ k → Unfailed p (applications-of t) k → every p (applications-of t) ≡ true
+    rows-end h = every-end p (applications-of t) k (omega (arith, count))

@@ -7,20 +7,20 @@ use mir.Syntax.{w32}
 use mir.Facts.{toZ-ofZ}
 use borrow.Author.Needs.{needs}
 use Rattle.calculus.specs.Limits.{most-numerator, sized}
-use Rattle.calculus.proofs.Looping.{every-here, every-skip, every-none}
+use Rattle.calculus.proofs.Looping.{every-stop, every-more, every-end}
 use Rattle.calculus.proofs.limits.are_numerators.Needs as need
 
 pub loop-x-again : need.loop-x-again
 loop-x-again c =
     let z : ℤ = getD (c .args .xs .now) (c .loop-x .x-index) (pos 0) in
     let f : SFits w32 z = search needs in
-    sym (every-skip (sized most-numerator) (c .args .xs .now) (c .loop-x .x-index) (pos 0) (c .loop-x-test .taken) (ap (sized most-numerator) (sym (toZ-ofZ f)) ∙ sym (c .if-not-is-numerator .ensures tt))) ∙ c .loop-x .inv
+    every-more (sized most-numerator) (c .args .xs .now) (c .loop-x .x-index) (pos 0) (c .loop-x-test .taken) (ap (sized most-numerator) (sym (toZ-ofZ f)) ∙ sym (c .if-not-is-numerator .ensures tt)) (c .loop-x .inv)
 
 pub returns-then-not-is-numerator : need.returns-then-not-is-numerator
 returns-then-not-is-numerator c =
     let z : ℤ = getD (c .args .xs .now) (c .loop-x .x-index) (pos 0) in
     let f : SFits w32 z = search needs in
-    sym (sym (c .loop-x .inv) ∙ every-here (sized most-numerator) (c .args .xs .now) (c .loop-x .x-index) (pos 0) (c .loop-x-test .taken) (ap (sized most-numerator) (sym (toZ-ofZ f)) ∙ sym (c .if-not-is-numerator .ensures tt)))
+    sym (every-stop (sized most-numerator) (c .args .xs .now) (c .loop-x .x-index) (pos 0) (c .loop-x-test .taken) (ap (sized most-numerator) (sym (toZ-ofZ f)) ∙ sym (c .if-not-is-numerator .ensures tt)) (c .loop-x .inv))
 
 pub returns : need.returns
-returns c = sym (sym (c .loop-x .inv) ∙ every-none (sized most-numerator) (c .args .xs .now) (c .loop-x .x-index) (c .loop-x-test .left))
+returns c = sym (every-end (sized most-numerator) (c .args .xs .now) (c .loop-x .x-index) (c .loop-x-test .left) (c .loop-x .inv))

@@ -6,7 +6,7 @@ use mir.Val.{SFits}
 use mir.Syntax.{w8}
 use mir.Facts.{toZ-ofZ}
 use borrow.Author.Needs.{needs}
-use Rattle.calculus.proofs.Looping.{some-here, some-skip, some-none}
+use Rattle.calculus.proofs.Looping.{some-stop, some-more, some-end}
 use Rattle.congruence.specs.Congruences.{denies-equal}
 use Rattle.congruence.proofs.matching.any_denies.Needs as need
 
@@ -15,14 +15,14 @@ returns-then-denies g c =
     let p : ℤ → Bool = denies-equal (g .T·Theory .kind) (g .T·Theory .model (c .args .below .now)) (c .args .switches) (c .args .i) (c .args .j) in
     let z : ℤ = getD (c .args .clause .now) (c .loop-l .l-index) (pos 0) in
     let f : SFits w8 z = search needs in
-    sym (sym (c .loop-l .inv) ∙ some-here p (c .args .clause .now) (c .loop-l .l-index) (pos 0) (c .loop-l-test .taken) (ap p (sym (toZ-ofZ f)) ∙ sym (c .if-denies .ensures tt)))
+    sym (some-stop p (c .args .clause .now) (c .loop-l .l-index) (pos 0) (c .loop-l-test .taken) (ap p (sym (toZ-ofZ f)) ∙ sym (c .if-denies .ensures tt)) (c .loop-l .inv))
 
 pub loop-l-again : need.loop-l-again
 loop-l-again g c =
     let p : ℤ → Bool = denies-equal (g .T·Theory .kind) (g .T·Theory .model (c .args .below .now)) (c .args .switches) (c .args .i) (c .args .j) in
     let z : ℤ = getD (c .args .clause .now) (c .loop-l .l-index) (pos 0) in
     let f : SFits w8 z = search needs in
-    sym (some-skip p (c .args .clause .now) (c .loop-l .l-index) (pos 0) (c .loop-l-test .taken) (ap p (sym (toZ-ofZ f)) ∙ sym (c .if-denies .ensures tt))) ∙ c .loop-l .inv
+    some-more p (c .args .clause .now) (c .loop-l .l-index) (pos 0) (c .loop-l-test .taken) (ap p (sym (toZ-ofZ f)) ∙ sym (c .if-denies .ensures tt)) (c .loop-l .inv)
 
 pub returns : need.returns
-returns g c = sym (sym (c .loop-l .inv) ∙ some-none (denies-equal (g .T·Theory .kind) (g .T·Theory .model (c .args .below .now)) (c .args .switches) (c .args .i) (c .args .j)) (c .args .clause .now) (c .loop-l .l-index) (c .loop-l-test .left))
+returns g c = sym (some-end (denies-equal (g .T·Theory .kind) (g .T·Theory .model (c .args .below .now)) (c .args .switches) (c .args .i) (c .args .j)) (c .args .clause .now) (c .loop-l .l-index) (c .loop-l-test .left) (c .loop-l .inv))

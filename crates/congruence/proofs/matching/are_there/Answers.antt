@@ -10,7 +10,7 @@ use mir.Facts.{toZ-ofZ}
 use borrow.Author.Needs.{needs}
 use Rattle.calculus.specs.Limits.{within}
 use Rattle.calculus.specs.Literals.{number}
-use Rattle.calculus.proofs.Looping.{every-here, every-skip, every-none}
+use Rattle.calculus.proofs.Looping.{every-stop, every-more, every-end}
 use Rattle.congruence.proofs.matching.are_there.Needs as need
 
 pub loop-l-again : need.loop-l-again
@@ -19,7 +19,7 @@ loop-l-again g c =
     let z : ℤ = getD (c .args .clause .now) (c .loop-l .l-index) (pos 0) in
     let f : SFits w8 z = search needs in
     let m : c .from .result + c .from-2 .result ≡ c .args .switches + g .T·Theory .kind .atoms (g .T·Theory .model (c .args .below .now)) = omega arith in
-    sym (every-skip p (c .args .clause .now) (c .loop-l .l-index) (pos 0) (c .loop-l-test .taken) (ap p (sym (toZ-ofZ f)) ∙ ap (λ n. within n (number (toZ w8 (ofZ w8 z)))) (sym m) ∙ sym (c .if-not-is-there .ensures tt))) ∙ c .loop-l .inv
+    every-more p (c .args .clause .now) (c .loop-l .l-index) (pos 0) (c .loop-l-test .taken) (ap p (sym (toZ-ofZ f)) ∙ ap (λ n. within n (number (toZ w8 (ofZ w8 z)))) (sym m) ∙ sym (c .if-not-is-there .ensures tt)) (c .loop-l .inv)
 
 pub returns-then-not-is-there : need.returns-then-not-is-there
 returns-then-not-is-there g c =
@@ -27,7 +27,7 @@ returns-then-not-is-there g c =
     let z : ℤ = getD (c .args .clause .now) (c .loop-l .l-index) (pos 0) in
     let f : SFits w8 z = search needs in
     let m : c .from .result + c .from-2 .result ≡ c .args .switches + g .T·Theory .kind .atoms (g .T·Theory .model (c .args .below .now)) = omega arith in
-    sym (sym (c .loop-l .inv) ∙ every-here p (c .args .clause .now) (c .loop-l .l-index) (pos 0) (c .loop-l-test .taken) (ap p (sym (toZ-ofZ f)) ∙ ap (λ n. within n (number (toZ w8 (ofZ w8 z)))) (sym m) ∙ sym (c .if-not-is-there .ensures tt)))
+    sym (every-stop p (c .args .clause .now) (c .loop-l .l-index) (pos 0) (c .loop-l-test .taken) (ap p (sym (toZ-ofZ f)) ∙ ap (λ n. within n (number (toZ w8 (ofZ w8 z)))) (sym m) ∙ sym (c .if-not-is-there .ensures tt)) (c .loop-l .inv))
 
 pub returns : need.returns
-returns g c = sym (sym (c .loop-l .inv) ∙ every-none (λ l. within (c .args .switches + g .T·Theory .kind .atoms (g .T·Theory .model (c .args .below .now))) (number l)) (c .args .clause .now) (c .loop-l .l-index) (c .loop-l-test .left))
+returns g c = sym (every-end (λ l. within (c .args .switches + g .T·Theory .kind .atoms (g .T·Theory .model (c .args .below .now))) (number l)) (c .args .clause .now) (c .loop-l .l-index) (c .loop-l-test .left) (c .loop-l .inv))

@@ -1,0 +1,5 @@
+pub mod Records
+pub mod Decoding
+pub mod Views
+pub mod Frames
+pub mod Laws

@@ -1,0 +1,25 @@
+use mathlib.Core.Path.{_≡_, sym, ap, _∙_}
+use native.Mathlib.Omega.{arith}
+use borrow.Author.Needs.{needs}
+use lib.IntN.{pos}
+use lib.ListN.{getD}
+use mir.Syntax.{w8}
+use mir.Val.{SFits}
+use Rattle.std.proofs.shelf.Signed.{toZ-ofZ}
+use Rattle.rows.specs.Hints.{affirms, halved}
+use Rattle.calculus.proofs.Looping.{some-stop, some-more, some-end}
+use Rattle.linear.specs.Models.{table}
+use Rattle.linear.proofs.store.Linear.splits.Needs as need
+
+pub returns-then-splits-at : need.returns-then-splits-at
+returns-then-splits-at c =
+    let f : SFits w8 (getD (c .args .clause .now) (c .loop-l .l-index) (pos 0)) = search needs in
+    sym (some-stop (affirms (table (c .args .self .now) .rows) (c .args .switches) (halved (table (c .args .self .now) .rows) (c .args .switches) (c .args .clause .now))) (c .args .clause .now) (c .loop-l .l-index) (pos 0) (c .loop-l-test .taken) (sym (simp toZ-ofZ at (c .if-splits-at .ensures tt))) (c .loop-l .inv))
+
+pub loop-l-again : need.loop-l-again
+loop-l-again c =
+    let f : SFits w8 (getD (c .args .clause .now) (c .loop-l .l-index) (pos 0)) = search needs in
+    some-more (affirms (table (c .args .self .now) .rows) (c .args .switches) (halved (table (c .args .self .now) .rows) (c .args .switches) (c .args .clause .now))) (c .args .clause .now) (c .loop-l .l-index) (pos 0) (c .loop-l-test .taken) (sym (simp toZ-ofZ at (c .if-splits-at .ensures tt))) (c .loop-l .inv)
+
+pub returns : need.returns
+returns c = sym (some-end (affirms (table (c .args .self .now) .rows) (c .args .switches) (halved (table (c .args .self .now) .rows) (c .args .switches) (c .args .clause .now))) (c .args .clause .now) (c .loop-l .l-index) (c .loop-l-test .left) (c .loop-l .inv))

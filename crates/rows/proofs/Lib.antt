@@ -1,0 +1,5 @@
+pub mod Integers
+pub mod Farkas
+pub mod Splits
+pub mod Locals
+pub mod Lawfulness
