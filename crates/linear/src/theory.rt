@@ -9,7 +9,6 @@ ghost use Rattle.rows.specs.Bounds.{most-size};
 ghost use Rattle.rows.specs.Hints.{multipliers};
 ghost use Rattle.rows.specs.Linear.{linear, by-multipliers as hinted-so, by-split as split-so};
 ghost use Rattle.linear.specs.Models.{table};
-ghost use Rattle.rows.proofs.Lawfulness.{linear-lawful};
 use crate::bodies;
 use crate::bounds::MOST_MEASURES;
 use crate::store::Linear;
@@ -73,8 +72,6 @@ pub impl Theory for Linear as LinearTheory {
     ghost kind = { linear };
 
     ghost model = { table };
-
-    ghost lawful = { linear-lawful };
 
     fn begin() -> Self {
         Linear::empty()
