@@ -21,6 +21,7 @@ use faults::TheoryFault;
 const OWN_KIND: u8 = 3;
 
 // The layer, with the theory below it.
+#[derive(Drop)]
 pub struct Congruence<T> {
     below: T,
     applications: Applications,
