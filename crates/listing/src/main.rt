@@ -6,7 +6,7 @@ mod taking;
 mod words;
 
 use calculus::Theory;
-use congruence::layer::CongruenceTheory;
+use congruence::CongruenceTheory;
 use faults::FileFault;
 use faults::InputCause;
 use faults::SessionFault;

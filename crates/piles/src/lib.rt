@@ -3,8 +3,8 @@ ghost use Rattle.calculus.specs.Sound.{Every-run-sound};
 ghost use Rattle.piles.specs.Piles.{congruent-linear, twice-congruent};
 ghost use Rattle.piles.specs.Examples.{Examples-stand};
 use calculus::law;
-use congruence::layer::Congruence;
-use congruence::layer::CongruenceTheory;
+use congruence::Congruence;
+use congruence::CongruenceTheory;
 use linear::Linear;
 use linear::LinearTheory;
 
@@ -43,7 +43,7 @@ mod tests {
     use calculus::JudgementPartialEq;
     use calculus::Theory;
     use calculus::Vouching;
-    use congruence::layer::CongruenceTheory;
+    use congruence::CongruenceTheory;
     use faults::InputCause;
     use faults::TheoryFault;
     use faults::TheoryFaultDebug;
