@@ -21,7 +21,7 @@ use Rattle.calculus.specs.Kinds.{Kind, Lawful}
 use Rattle.calculus.specs.Trails.{Content, Entry, reason, entry-for, affirms, false-on, false-at, choices, up-to, enter, enter-choice, readable, reading-level}
 use Rattle.calculus.specs.Trails.Origin.{Chosen, Propagated, Read as As-read}
 use Rattle.calculus.specs.Trails.Content.{Value, Literal}
-use Rattle.calculus.specs.States.{Phase, Stored, State, is-new, is-drafting, is-searching, is-analysing, clause, fresh, numbers}
+use Rattle.calculus.specs.States.{Phase, Stored, State, is-new, is-drafting, is-searching, is-analysing, clause, fresh}
 use Rattle.calculus.specs.States.Phase.{New, Drafting, Searching, Analysing, Closed}
 use Rattle.calculus.specs.Steps.{others, others-false, literal-on, resolvent, top-of, denial, with-model, with-clause, with-trail, forced, split, step, after, run}
 use Rattle.calculus.specs.Bounds.{Clause-up-to, Content-up-to, Reasoned, All-reasoned, Read-right, Bounded, Every-run-bounded}
@@ -29,6 +29,7 @@ use Rattle.calculus.proofs.Testing.{both, every-all, within-true}
 use Rattle.calculus.proofs.Trailing.{up-to-append, up-to-twice, up-to-whole, up-to-weaken, has-whole}
 use Rattle.calculus.proofs.Meaning.{Known, readable-more, read-at, not-below}
 use Rattle.calculus.proofs.Invariant.{Placed, clause-before}
+use Rattle.calculus.proofs.Models.{count-taken}
 use Rattle.calculus.proofs.Entering.{clause-of}
 use Rattle.calculus.proofs.Analysis.{others-below, reason-false}
 use Rattle.calculus.proofs.Room.{room}
@@ -99,8 +100,7 @@ Sized-value (Literal l o) = Unit {0}
 
 -- what the bounds need beyond what soundness keeps
 record Tame (K : Kind) (s : State K) : Type 0 where
-  pub few-numbers : numbers K s ≤ most-numbers
-  pub no-atoms : is-new (s .phase) ≡ true → K .atoms (s .model) ≡ 0
+  pub few-numbers : s .numbers ≤ most-numbers
   pub few-measures : K .measures (s .model) ≤ most-measures
   pub few-clauses : length (s .clauses) ≤ most-clauses
   pub each-clause : All (λ r. clause-like (r .literals) ≡ true) (s .clauses)
@@ -119,23 +119,6 @@ not-new Analysing h k = true≢false (sym k)
 not-new (Closed v) h k = true≢false (sym k)
 
 module _ (K : Kind) (L : Lawful K) where
-  -- a count that was taken
-  count-taken : (m : K .Model) (t : ℕ) (n : K .Model) → K .count m t ≡ inr n → (K .measures n ≤ most-measures) × (K .atoms n ≡ K .atoms m)
-  count-taken m t n e =
-      ⊎-elim (λ y. let q = L .count-again m t y in never (sym (q .1) ∙ e))
-      (λ y. ⊎-elim (λ l. let q = L .count-many m t y l in never (sym (q .1) ∙ e))
-      (λ l. let q = L .counting m t y l in
-      let same : q .0 ≡ n = inr-same (sym (q .1) ∙ e) in
-      let a = q .2 .measures in
-      let b = L .few in
-      (subst (λ i. K .measures i ≤ most-measures) same (omega arith), ap (K .atoms) (sym same) ∙ q .2 .atoms)) (cases-lt (K .most) t)) (cases-bool (K .counted m))
-    where
-      never : {A : Type 0} {f : TheoryFault} → inl f ≡ inr n → A
-      never {A} {f} e = let z : _≡_ {A = ℕ} 0 1 = cc in absurd (omega arith)
-
-      inr-same : {i : K .Model} → _≡_ {A = TheoryFault ⊎ K .Model} (inr i) (inr n) → i ≡ n
-      inr-same {i} e = cc
-
   -- a clause more
   with-clause-tame : (s : State K) → Tame K s → (ls : List ℤ) (b : Bool) → ltb (length (s .clauses)) most-clauses ≡ true → clause-like ls ≡ true → Tame K (with-clause K s ls b)
   with-clause-tame s h ls b room′ like =
@@ -143,7 +126,6 @@ module _ (K : Kind) (L : Lawful K) where
       let q = ltb-true (length (s .clauses)) most-clauses room′ in
       record {
         few-numbers = h .few-numbers;
-        no-atoms = h .no-atoms;
         few-measures = h .few-measures;
         few-clauses = omega arith;
         each-clause = all-push (λ r. clause-like (r .literals) ≡ true) (s .clauses) (record { literals = ls; rule = b }) (h .each-clause) like;
@@ -158,7 +140,6 @@ module _ (K : Kind) (L : Lawful K) where
   with-entry-tame : (s : State K) → Tame K s → (c : Content) (k : ℕ) → Sized-value c → Reasoned (s .clauses) (s .trail) c k → Tame K (with-trail K s (enter (s .trail) c k))
   with-entry-tame s h c k v r = record {
     few-numbers = h .few-numbers;
-    no-atoms = h .no-atoms;
     few-measures = h .few-measures;
     few-clauses = h .few-clauses;
     each-clause = h .each-clause;
@@ -170,10 +151,10 @@ module _ (K : Kind) (L : Lawful K) where
   }
 
   -- another model
-  with-model-tame : (s : State K) → Tame K s → (n : K .Model) → (is-drafting (s .phase) || is-searching (s .phase)) ≡ true → s .switches + K .atoms n ≤ most-numbers → K .measures n ≡ K .measures (s .model) → Tame K (with-model K s n)
-  with-model-tame s h n p b e = record {
+  with-model-tame : (s : State K) → Tame K s → (n : K .Model) (k : ℕ) → (is-drafting (s .phase) || is-searching (s .phase)) ≡ true → k ≤ most-numbers → K .measures n ≡ K .measures (s .model)
+      → Tame K (record { phase = s .phase; switches = s .switches; numbers = k; denominator = s .denominator; model = n; clauses = s .clauses; trail = s .trail; open-clause = s .open-clause })
+  with-model-tame s h n k p b e = record {
     few-numbers = b;
-    no-atoms = λ y. absurd (not-new (s .phase) p y);
     few-measures = let z = h .few-measures in omega arith;
     few-clauses = h .few-clauses;
     each-clause = h .each-clause;
@@ -193,7 +174,6 @@ module _ (K : Kind) (L : Lawful K) where
       (with-clause-tame (with-trail K (Rattle.calculus.specs.Steps.turned K s Searching []) (up-to k (s .trail)))
       (record {
         few-numbers = h .few-numbers;
-        no-atoms = λ y. absurd (true≢false (sym y));
         few-measures = h .few-measures;
         few-clauses = h .few-clauses;
         each-clause = h .each-clause;
@@ -207,7 +187,6 @@ module _ (K : Kind) (L : Lawful K) where
   closed-tame : (s : State K) → Tame K s → (p : Phase) → is-new p ≡ false → Tame K (Rattle.calculus.specs.Steps.turned K s p [])
   closed-tame s h p q = record {
     few-numbers = h .few-numbers;
-    no-atoms = λ y. absurd (true≢false (sym y ∙ q));
     few-measures = h .few-measures;
     few-clauses = h .few-clauses;
     each-clause = h .each-clause;
@@ -221,7 +200,6 @@ module _ (K : Kind) (L : Lawful K) where
   analysing-tame : (s : State K) → Tame K s → (ls : List ℤ) → clause-like ls ≡ true → Tame K (Rattle.calculus.specs.Steps.turned K s Analysing ls)
   analysing-tame s h ls like = record {
     few-numbers = h .few-numbers;
-    no-atoms = λ y. absurd (true≢false (sym y));
     few-measures = h .few-measures;
     few-clauses = h .few-clauses;
     each-clause = h .each-clause;
@@ -234,14 +212,9 @@ module _ (K : Kind) (L : Lawful K) where
 
   tame-by-step : (s : State K) → Held K s → Tame K s → (c : Call) → Taken-so K (λ o. Tame K (o .1)) s c
   tame-by-step s held′ h (Counts w t) = λ p b n e.
-      let q = count-taken (s .model) t n e in
-      let q0 = q .0 in
-      let q1 = q .1 in
-      let z = h .no-atoms p in
-      let y = leb-true w most-numbers b in
+      let q = count-taken K L (s .model) t n e in
       record {
-        few-numbers = omega arith;
-        no-atoms = λ x. absurd (true≢false (sym x));
+        few-numbers = leb-true w most-numbers b;
         few-measures = q .0;
         few-clauses = h .few-clauses;
         each-clause = h .each-clause;
@@ -253,18 +226,14 @@ module _ (K : Kind) (L : Lawful K) where
       }
   tame-by-step s held′ h (Declare body) = λ p n e.
       let q = L .declaring (s .model) body n e in
-      let a = q .atoms in
-      let z = h .few-numbers in
-      with-model-tame s h n (or-left (is-drafting (s .phase)) (is-searching (s .phase)) p) (omega arith) (q .measures)
+      with-model-tame s h n (s .numbers) (or-left (is-drafting (s .phase)) (is-searching (s .phase)) p) (h .few-numbers) (q .measures)
   tame-by-step s held′ h (Admit body) = λ p b n e.
       let q = L .admitting (s .model) body n e in
-      let a = q .atoms in
-      let z = ltb-true (numbers K s) most-numbers b in
-      with-model-tame s h n p (omega arith) (q .measures)
+      let z = ltb-true (s .numbers) most-numbers b in
+      with-model-tame s h n (s .numbers + 1) p (omega arith) (q .measures)
   tame-by-step s held′ h (Rule ls) = λ _ r _ like _. with-clause-tame s h ls true r like
   tame-by-step s held′ h (Seal d) = λ p b. record {
     few-numbers = h .few-numbers;
-    no-atoms = λ y. absurd (true≢false (sym y));
     few-measures = h .few-measures;
     few-clauses = h .few-clauses;
     each-clause = h .each-clause;
@@ -278,7 +247,7 @@ module _ (K : Kind) (L : Lawful K) where
   tame-by-step s held′ h (Choose l) = λ _ _ _ _ _. with-entry-tame s h (Literal l Chosen) (choices (s .trail) + 1) tt tt
   tame-by-step s held′ h (Set j x) = λ _ b _ _. with-entry-tame s h (Value j x) (choices (s .trail) + 1) (and-parts (within (K .measures (s .model)) j) (sized most-numerator x) b .1) tt
   tame-by-step s held′ h (Propagate c l) = λ _ _ kn _ _ un.
-      let k = and-parts (within (length (s .clauses)) c) (within (numbers K s) (number l)) kn in
+      let k = and-parts (within (length (s .clauses)) c) (within (s .numbers) (number l)) kn in
       let u = and-parts (holds-literal l (clause (s .clauses) c)) (others-false (s .trail) l (clause (s .clauses) c)) un in
       with-entry-tame s h (Literal l (Propagated c)) (choices (s .trail)) tt
       (k .0, u .0, subst (λ v. others-false v l (clause (s .clauses) c) ≡ true) (sym (up-to-whole (choices (s .trail)) (s .trail) (held′ .core .levels))) (u .1))
@@ -323,8 +292,7 @@ module _ (K : Kind) (L : Lawful K) where
 
   fresh-tame : Tame K (fresh K)
   fresh-tame = record {
-    few-numbers = let z = L .no-atoms in omega arith;
-    no-atoms = λ _. L .no-atoms;
+    few-numbers = omega arith;
     few-measures = let z = L .no-measures in omega arith;
     few-clauses = omega arith;
     each-clause = tt;
@@ -354,15 +322,16 @@ module _ (K : Kind) (L : Lawful K) where
 
   pub bounded : Every-run-bounded K
   bounded cs = record {
+    numbers-are = h .counted;
     few-numbers = t .few-numbers;
     few-measures = t .few-measures;
     few-clauses = t .few-clauses;
-    each-clause = both (λ r. clause-like (r .literals) ≡ true) (λ r. every (λ l. within (numbers K s) (number l)) (r .literals) ≡ true) (λ r. Clause-up-to (numbers K s) (r .literals)) (λ r x y. (x, y)) (s .clauses) (t .each-clause) (h .core .rows-known);
-    open-clause = (t .open-clause, ⊎-elim (λ y. opened K L s h y .1) (λ y. subst (λ ls. every (λ l. within (numbers K s) (number l)) ls ≡ true) (sym (t .no-open y)) refl) (cases-bool (is-analysing (s .phase))));
+    each-clause = both (λ r. clause-like (r .literals) ≡ true) (λ r. every (λ l. within (s .numbers) (number l)) (r .literals) ≡ true) (λ r. Clause-up-to (s .numbers) (r .literals)) (λ r x y. (x, y)) (s .clauses) (t .each-clause) (subst (λ n. All (λ r. every (λ l. within n (number l)) (r .literals) ≡ true) (s .clauses)) (sym (h .counted)) (h .core .rows-known));
+    open-clause = (t .open-clause, ⊎-elim (λ y. subst (λ n. every (λ l. within n (number l)) (s .open-clause) ≡ true) (sym (h .counted)) (opened K L s h y .1)) (λ y. subst (λ ls. every (λ l. within (s .numbers) (number l)) ls ≡ true) (sym (t .no-open y)) refl) (cases-bool (is-analysing (s .phase))));
     no-open = t .no-open;
     denominator = t .denominator;
-    short-trail = room (numbers K s) (K .measures (s .model)) (s .trail) (h .core .apart) (h .core .known);
-    each-entry = both (λ e. Known (numbers K s) (K .measures (s .model)) (e .content)) (λ e. Sized-value (e .content)) (λ e. Content-up-to (numbers K s) (K .measures (s .model)) (e .content)) (λ e. content-known (numbers K s) (K .measures (s .model)) (e .content)) (s .trail) (h .core .known) (t .values);
+    short-trail = room (s .numbers) (K .measures (s .model)) (s .trail) (h .core .apart) known;
+    each-entry = both (λ e. Known (s .numbers) (K .measures (s .model)) (e .content)) (λ e. Sized-value (e .content)) (λ e. Content-up-to (s .numbers) (K .measures (s .model)) (e .content)) (λ e. content-known (s .numbers) (K .measures (s .model)) (e .content)) (s .trail) known (t .values);
     levels = h .core .levels;
     choice-levels = h .core .numbered;
     reasons = t .reasons;
@@ -377,3 +346,6 @@ module _ (K : Kind) (L : Lawful K) where
 
       t : Tame K s
       t = after-tame (fresh K) (fresh-held K L) fresh-tame cs
+
+      known : All (λ e. Known (s .numbers) (K .measures (s .model)) (e .content)) (s .trail)
+      known = subst (λ n. All (λ e. Known n (K .measures (s .model)) (e .content)) (s .trail)) (sym (h .counted)) (h .core .known)

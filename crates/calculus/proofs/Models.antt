@@ -10,13 +10,14 @@ use lib.IntN.{ℤ, pos, negsuc, negℤ}
 use Rattle.std.specs.Iters.{counting}
 use Rattle.std.specs.shelf.Lists.{All}
 use Rattle.std.proofs.shelf.Elements.{all-push, all-weaker}
-use Rattle.std.proofs.shelf.Tests.{and-parts, and-from, and-left, lt-ltb, le-leb, ltb-true, leb-false, cases-bool, cond-true}
-use mathlib.Core.Logic.{⊎-elim}
+use Rattle.std.proofs.shelf.Tests.{and-parts, and-from, and-left, lt-ltb, le-leb, ltb-true, leb-false, cases-bool, cases-lt, cond-true}
+use mathlib.Core.Logic.{_⊎_, inl, inr, ⊎-elim}
+use Rattle.faults.specs.declared.TheoryFault.{TheoryFault}
 use Rattle.calculus.specs.declared.Judgement.the-variants.{Yes}
 use Rattle.calculus.specs.Lists.{every, some, highest, nth}
 use Rattle.calculus.specs.Literals.{same, number, signed}
-use Rattle.calculus.specs.Limits.{within}
-use Rattle.calculus.specs.Kinds.{Kind, Whole, One-more, Narrower}
+use Rattle.calculus.specs.Limits.{most-measures, within}
+use Rattle.calculus.specs.Kinds.{Kind, Lawful, Whole, One-more, Narrower}
 use Rattle.calculus.specs.Trails.{Content, Entry, Origin, choice, valued, value, choices, up-to, readable, numerators, by-values}
 use Rattle.calculus.specs.Trails.Origin.{Chosen, Propagated, Read}
 use Rattle.calculus.specs.Trails.Content.{Value, Literal}
@@ -148,3 +149,21 @@ module _ (K : Kind) (m n : K .Model) (E : Extends K m n) (w : ℕ) where
     sensible = both (λ e. Known (w + K .atoms m) (K .measures m) (e .content)) (λ e. Sensible K m w d t (e .content)) (λ e. Sensible K n w d t (e .content))
         (λ e. sensible-kept d t (e .content)) t (h .known) (h .sensible);
   }
+
+module _ (K : Kind) (L : Lawful K) where
+  -- a count that was taken
+  pub count-taken : (m : K .Model) (t : ℕ) (n : K .Model) → K .count m t ≡ inr n → (K .measures n ≤ most-measures) × (K .atoms n ≡ K .atoms m)
+  count-taken m t n e =
+      ⊎-elim (λ y. let q = L .count-again m t y in never (sym (q .1) ∙ e))
+      (λ y. ⊎-elim (λ l. let q = L .count-many m t y l in never (sym (q .1) ∙ e))
+      (λ l. let q = L .counting m t y l in
+      let same : q .0 ≡ n = inr-same (sym (q .1) ∙ e) in
+      let a = q .2 .measures in
+      let b = L .few in
+      (subst (λ i. K .measures i ≤ most-measures) same (omega arith), ap (K .atoms) (sym same) ∙ q .2 .atoms)) (cases-lt (K .most) t)) (cases-bool (K .counted m))
+    where
+      never : {A : Type 0} {f : TheoryFault} → inl f ≡ inr n → A
+      never {A} {f} e = let z : _≡_ {A = ℕ} 0 1 = cc in absurd (omega arith)
+
+      inr-same : {i : K .Model} → _≡_ {A = TheoryFault ⊎ K .Model} (inr i) (inr n) → i ≡ n
+      inr-same {i} e = cc

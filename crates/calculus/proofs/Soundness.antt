@@ -28,9 +28,9 @@ use Rattle.calculus.specs.Arrangements.{Same-fraction, Arrangement}
 use Rattle.calculus.specs.Trails.{Content, Entry, Origin, choice, affirms, concerns, values, numerator, reason, entry-for, has-entry, on-trail, false-on, false-at, taken, valued, value, choices, up-to, enter, enter-choice, readable, reading-level, numerators, by-values, reading, stays-true}
 use Rattle.calculus.specs.Trails.Origin.{Chosen, Propagated}
 use Rattle.calculus.specs.Trails.Content.{Value, Literal}
-use Rattle.calculus.specs.States.{State, Phase, Verdict, Stored, fresh, numbers, is-new, is-drafting, is-searching, is-analysing, holds, meets, clause}
+use Rattle.calculus.specs.States.{State, Phase, Verdict, Stored, fresh, is-new, is-drafting, is-searching, is-analysing, holds, meets, clause}
 use Rattle.calculus.specs.Calls.{Call}
-use Rattle.calculus.specs.Steps.{top-of, denial, drafted, with-model, with-clause, with-trail, sealed, turned, arranged, resumed, forced, split, others, others-false, literal-on, resolvent, all-read, step, after, run}
+use Rattle.calculus.specs.Steps.{top-of, denial, drafted, with-model, with-atom, with-clause, with-trail, sealed, turned, arranged, resumed, forced, split, others, others-false, literal-on, resolvent, all-read, step, after, run}
 use Rattle.calculus.specs.States.Phase.{New, Drafting, Searching, Analysing, Closed}
 use Rattle.calculus.specs.States.Verdict.{Impossible, Possible, Undecided}
 use Rattle.calculus.specs.Calls.Call.{Counts, Declare, Admit, Rule, Seal, Lemma, Choose, Set, Propagate, Read, Conflict, Resolve, Jump, Concede, Claim, Abandon}
@@ -39,7 +39,7 @@ use Rattle.calculus.proofs.Testing.{both, front, last, every-all, all-every, w
 use Rattle.calculus.proofs.Trailing.{Exclusive, values-exclusive, concerns-exclusive, affirms-concerns, denies-concerns, found, first}
 use Rattle.calculus.proofs.Meaning.{Known, whole}
 use Rattle.calculus.proofs.Invariant.{Ok, Agrees, Placed, Sensible, Core, agrees-lower, clause-core, ok-before, up-to-core, count-up-to}
-use Rattle.calculus.proofs.Models.{Extends, one-more-extends, narrower-extends, model-core}
+use Rattle.calculus.proofs.Models.{Extends, one-more-extends, narrower-extends, model-core, count-taken}
 use Rattle.calculus.proofs.Entering.{clause-of, choose-core, force-core, set-core, read-core}
 use Rattle.calculus.proofs.Stepping.{Taken-so, stepped}
 use Rattle.calculus.proofs.Room.{one-passes}
@@ -48,7 +48,7 @@ use Rattle.calculus.proofs.Analysis.{Opened, literal-of, resolve-opened, free-
 
 -- what a phase adds
 abbrev pub Phased : (K : Kind) → K .Model → ℕ → List Stored → List Entry → List ℤ → Phase → Type 0
-Phased K m w rows t ls New = (rows ≡ []) × (t ≡ [])
+Phased K m w rows t ls New = (rows ≡ []) × (t ≡ []) × (K .atoms m ≡ 0)
 Phased K m w rows t ls Drafting = t ≡ []
 Phased K m w rows t ls Searching = Unit {0}
 Phased K m w rows t ls Analysing = Opened K m w rows t ls
@@ -59,9 +59,10 @@ Phased K m w rows t ls (Closed Undecided) = Unit {0}
 pub record Held (K : Kind) (s : State K) : Type 0 where
   pub core : Core K (s .model) (s .switches) (s .denominator) (s .clauses) (s .trail)
   pub phased : Phased K (s .model) (s .switches) (s .clauses) (s .trail) (s .open-clause) (s .phase)
+  pub counted : s .numbers ≡ s .switches + K .atoms (s .model)
 
 module _ (K : Kind) (m : K .Model) (w : ℕ) (rows : List Stored) (t : List Entry) (ls : List ℤ) where
-  when-new : (p : Phase) → is-new p ≡ true → Phased K m w rows t ls p → (rows ≡ []) × (t ≡ [])
+  when-new : (p : Phase) → is-new p ≡ true → Phased K m w rows t ls p → (rows ≡ []) × (t ≡ []) × (K .atoms m ≡ 0)
   when-new New h x = x
   when-new Drafting h x = absurd (true≢false (sym h))
   when-new Searching h x = absurd (true≢false (sym h))
@@ -158,8 +159,11 @@ last-clause rows r =
     last-row (x ∷ xs) (suc i) e = last-row xs i (omega arith)
 
 module _ (K : Kind) (L : Lawful K) where
-  model-held : (s : State K) (n : K .Model) → Held K s → (is-drafting (s .phase) || is-searching (s .phase)) ≡ true → Extends K (s .model) n → Held K (with-model K s n)
-  model-held s n h p e = record {
+  -- another model, with another count of numbers
+  model-held : (s : State K) (n : K .Model) (k : ℕ) → Held K s → (is-drafting (s .phase) || is-searching (s .phase)) ≡ true → Extends K (s .model) n → k ≡ s .switches + K .atoms n
+      → Held K (record { phase = s .phase; switches = s .switches; numbers = k; denominator = s .denominator; model = n; clauses = s .clauses; trail = s .trail; open-clause = s .open-clause })
+  model-held s n k h p e c = record {
+    counted = c;
     core = model-core K (s .model) n e (s .switches) (s .denominator) (s .clauses) (s .trail) (h .core);
     phased = ⊎-elim
         (λ y. drafting K n (s .switches) (s .clauses) (s .trail) (s .open-clause) (s .phase) y (when-drafting K (s .model) (s .switches) (s .clauses) (s .trail) (s .open-clause) (s .phase) y (h .phased)))
@@ -167,8 +171,8 @@ module _ (K : Kind) (L : Lawful K) where
         (or-cases (is-drafting (s .phase)) (is-searching (s .phase)) p);
   }
 
-  trail-held : (s : State K) (t : List Entry) → is-searching (s .phase) ≡ true → Core K (s .model) (s .switches) (s .denominator) (s .clauses) t → Held K (with-trail K s t)
-  trail-held s t p c = record { core = c; phased = searching K (s .model) (s .switches) (s .clauses) t (s .open-clause) (s .phase) p }
+  trail-held : (s : State K) (t : List Entry) → Held K s → is-searching (s .phase) ≡ true → Core K (s .model) (s .switches) (s .denominator) (s .clauses) t → Held K (with-trail K s t)
+  trail-held s t h p c = record { counted = h .counted; core = c; phased = searching K (s .model) (s .switches) (s .clauses) t (s .open-clause) (s .phase) p }
 
   pub opened : (s : State K) → Held K s → is-analysing (s .phase) ≡ true → Opened K (s .model) (s .switches) (s .clauses) (s .trail) (s .open-clause)
   opened s h p = when-analysing K (s .model) (s .switches) (s .clauses) (s .trail) (s .open-clause) (s .phase) p (h .phased)
@@ -180,9 +184,10 @@ module _ (K : Kind) (L : Lawful K) where
       (up-to-core K (s .model) (s .switches) (s .denominator) L (s .clauses) (s .trail) k b (h .core)) (opened s h p .1)
       (λ a ok. opened s h p .2 a (ok-before K (s .model) (s .switches) (s .denominator) (s .clauses) (record { literals = s .open-clause; rule = false }) a ok))
 
-  forced-held : (s : State K) (l : ℤ) → Held K s → is-analysing (s .phase) ≡ true → within (numbers K s) (number l) ≡ true → holds-literal l (s .open-clause) ≡ true
+  forced-held : (s : State K) (l : ℤ) → Held K s → is-analysing (s .phase) ≡ true → within (s .switches + K .atoms (s .model)) (number l) ≡ true → holds-literal l (s .open-clause) ≡ true
       → highest (false-at (s .trail)) (others l (s .open-clause)) < false-at (s .trail) l → Held K (forced K s l (highest (false-at (s .trail)) (others l (s .open-clause))))
   forced-held s l h p kn il b = record {
+    counted = h .counted;
     core = subst (λ i. Core K m w (s .denominator) rows′ (enter (up-to k t) (Literal l (Propagated (length (s .clauses) + 1))) i)) count
         (force-core K L m w (s .denominator) rows′ (up-to k t) (resumed-core s h p k low) (length (s .clauses) + 1) l kn
         (free-below K m w (s .denominator) (s .clauses) t (h .core) l k fl b) (hidden-below K m w (s .denominator) (s .clauses) t (h .core) l k fl b)
@@ -216,9 +221,10 @@ module _ (K : Kind) (L : Lawful K) where
       count : choices (up-to k t) ≡ k
       count = count-up-to K m w (s .denominator) (s .clauses) t k low (h .core)
 
-  split-held : (s : State K) (l : ℤ) (k : ℕ) → Held K s → is-analysing (s .phase) ≡ true → within (numbers K s) (number l) ≡ true → holds-literal l (s .open-clause) ≡ true
+  split-held : (s : State K) (l : ℤ) (k : ℕ) → Held K s → is-analysing (s .phase) ≡ true → within (s .switches + K .atoms (s .model)) (number l) ≡ true → holds-literal l (s .open-clause) ≡ true
       → k < false-at (s .trail) l → Held K (split K s l k)
   split-held s l k h p kn il b = record {
+    counted = h .counted;
     core = choose-core K L m w (s .denominator) (resumed K s k .clauses) (up-to k t) (resumed-core s h p k low) l kn
         (free-below K m w (s .denominator) (s .clauses) t (h .core) l k fl b) (hidden-below K m w (s .denominator) (s .clauses) t (h .core) l k fl b);
     phased = tt;
@@ -242,57 +248,79 @@ module _ (K : Kind) (L : Lawful K) where
   not-readable : (s : State K) (n : ℕ) → not (readable K (s .model) (s .switches) (s .trail) n) ≡ true → readable K (s .model) (s .switches) (s .trail) n ≡ true → ⊥
   not-readable s n nr = both-ways (readable K (s .model) (s .switches) (s .trail) n) (not-true (readable K (s .model) (s .switches) (s .trail) n) nr)
 
+  -- a number in use is a switch or an atom
+  in-use : (s : State K) → Held K s → (n : ℕ) → within (s .numbers) n ≡ true → within (s .switches + K .atoms (s .model)) n ≡ true
+  in-use s h n e = subst (λ k. within k n ≡ true) (h .counted) e
+
+  all-in-use : (s : State K) → Held K s → (ls : List ℤ) → every (λ l. within (s .numbers) (number l)) ls ≡ true → every (λ l. within (s .switches + K .atoms (s .model)) (number l)) ls ≡ true
+  all-in-use s h ls e = subst (λ k. every (λ l. within k (number l)) ls ≡ true) (h .counted) e
+
   kept-by-step : (s : State K) → Held K s → (c : Call) → Taken-so K (λ o. Held K (o .1)) s c
   kept-by-step s h (Counts w t) = λ p _ n e.
       let x = when-new K (s .model) (s .switches) (s .clauses) (s .trail) (s .open-clause) (s .phase) p (h .phased) in
-      record { core = subst₂ (λ r u. Core K n w (s .denominator) r u) (sym (x .0)) (sym (x .1)) (empty-core K n w (s .denominator) (h .core .positive)); phased = x .1 }
-  kept-by-step s h (Declare body) = λ p n e. model-held s n h (or-left (is-drafting (s .phase)) (is-searching (s .phase)) p) (narrower-extends K (s .model) n (L .declaring (s .model) body n e))
-  kept-by-step s h (Admit body) = λ p _ n e. model-held s n h p (one-more-extends K (s .model) n (L .admitting (s .model) body n e))
+      let q = count-taken K L (s .model) t n e .1 in
+      let z = x .2 in
+      record { core = subst₂ (λ r u. Core K n w (s .denominator) r u) (sym (x .0)) (sym (x .1)) (empty-core K n w (s .denominator) (h .core .positive)); phased = x .1; counted = omega arith }
+  kept-by-step s h (Declare body) = λ p n e.
+      let q = L .declaring (s .model) body n e in
+      let a = q .atoms in
+      let c = h .counted in
+      model-held s n (s .numbers) h (or-left (is-drafting (s .phase)) (is-searching (s .phase)) p) (narrower-extends K (s .model) n q) (omega arith)
+  kept-by-step s h (Admit body) = λ p _ n e.
+      let q = L .admitting (s .model) body n e in
+      let a = q .atoms in
+      let c = h .counted in
+      model-held s n (s .numbers + 1) h p (one-more-extends K (s .model) n q) (omega arith)
   kept-by-step s h (Rule ls) = λ p _ _ _ kn. record {
-    core = clause-core K (s .model) (s .switches) (s .denominator) (s .clauses) (s .trail) ls true (h .core) kn
+    counted = h .counted;
+    core = clause-core K (s .model) (s .switches) (s .denominator) (s .clauses) (s .trail) ls true (h .core) (all-in-use s h ls kn)
         (λ a ok. last (λ r. r .rule ≡ true → meets K (s .model) (s .switches) a (r .literals) ≡ true) (s .clauses) (record { literals = ls; rule = true }) (ok .2) refl);
     phased = drafting K (s .model) (s .switches) _ (s .trail) (s .open-clause) (s .phase) p (when-drafting K (s .model) (s .switches) (s .clauses) (s .trail) (s .open-clause) (s .phase) p (h .phased));
   }
   kept-by-step s h (Seal d) = λ p b.
       let e = when-drafting K (s .model) (s .switches) (s .clauses) (s .trail) (s .open-clause) (s .phase) p (h .phased) in
       record {
+        counted = h .counted;
         core = subst (λ u. Core K (s .model) (s .switches) d (s .clauses) u) (sym e) (sealed-core K (s .model) (s .switches) (s .denominator) d (s .clauses) (within-true most-denominator d b .0) (subst (λ u. Core K (s .model) (s .switches) (s .denominator) (s .clauses) u) e (h .core)));
         phased = tt;
       }
   kept-by-step s h (Lemma ls hint) = λ p _ _ _ kn v. record {
-    core = clause-core K (s .model) (s .switches) (s .denominator) (s .clauses) (s .trail) ls false (h .core) kn
+    counted = h .counted;
+    core = clause-core K (s .model) (s .switches) (s .denominator) (s .clauses) (s .trail) ls false (h .core) (all-in-use s h ls kn)
         (λ a ok. vouched-met K (s .model) (s .switches) a ls (L .vouching (s .model) (s .switches) ls hint v (a .numerators) (a .denominator) (ok .0 .1, ok .0 .2) (ok .1)));
     phased = searching K (s .model) (s .switches) _ (s .trail) (s .open-clause) (s .phase) p;
   }
   kept-by-step s h (Choose l) = λ p _ kn off nr.
-      trail-held s _ p (choose-core K L (s .model) (s .switches) (s .denominator) (s .clauses) (s .trail) (h .core) l kn (not-true (taken (number l) (s .trail)) off) (not-readable s (number l) nr))
+      trail-held s _ h p (choose-core K L (s .model) (s .switches) (s .denominator) (s .clauses) (s .trail) (h .core) l (in-use s h (number l) kn) (not-true (taken (number l) (s .trail)) off) (not-readable s (number l) nr))
   kept-by-step s h (Set j x) = λ p b off st.
-      trail-held s _ p (set-core K L (s .model) (s .switches) (s .denominator) (s .clauses) (s .trail) (h .core) j x (and-parts (within (K .measures (s .model)) j) (sized most-numerator x) b .0) (not-true (valued j (s .trail)) off) st)
+      trail-held s _ h p (set-core K L (s .model) (s .switches) (s .denominator) (s .clauses) (s .trail) (h .core) j x (and-parts (within (K .measures (s .model)) j) (sized most-numerator x) b .0) (not-true (valued j (s .trail)) off) st)
   kept-by-step s h (Propagate c l) = λ p _ kn off nr un.
-      let k = and-parts (within (length (s .clauses)) c) (within (numbers K s) (number l)) kn in
-      trail-held s _ p (force-core K L (s .model) (s .switches) (s .denominator) (s .clauses) (s .trail) (h .core) c l (k .1) (not-true (taken (number l) (s .trail)) off) (not-readable s (number l) nr)
+      let k = and-parts (within (length (s .clauses)) c) (within (s .numbers) (number l)) kn in
+      trail-held s _ h p (force-core K L (s .model) (s .switches) (s .denominator) (s .clauses) (s .trail) (h .core) c l (in-use s h (number l) (k .1)) (not-true (taken (number l) (s .trail)) off) (not-readable s (number l) nr)
       (k .0) (and-parts (holds-literal l (clause (s .clauses) c)) (others-false (s .trail) l (clause (s .clauses) c)) un .1))
-  kept-by-step s h (Read n) = λ p kn off r. trail-held s _ p (read-core K L (s .model) (s .switches) (s .denominator) (s .clauses) (s .trail) (h .core) n kn (not-true (taken n (s .trail)) off) r)
+  kept-by-step s h (Read n) = λ p kn off r. trail-held s _ h p (read-core K L (s .model) (s .switches) (s .denominator) (s .clauses) (s .trail) (h .core) n (in-use s h n kn) (not-true (taken n (s .trail)) off) r)
   kept-by-step s h (Conflict c) = λ p known f. record {
+    counted = h .counted;
     core = h .core;
-    phased = (f, clause-of (λ ls. every (λ l. within (numbers K s) (number l)) ls ≡ true) (s .clauses) c known (h .core .rows-known), λ a ok. clause-of (λ ls. meets K (s .model) (s .switches) a ls ≡ true) (s .clauses) c known (h .core .follow a ok));
+    phased = (f, clause-of (λ ls. every (λ l. within (s .switches + K .atoms (s .model)) (number l)) ls ≡ true) (s .clauses) c known (h .core .rows-known), λ a ok. clause-of (λ ls. meets K (s .model) (s .switches) a ls ≡ true) (s .clauses) c known (h .core .follow a ok));
   }
   kept-by-step s h (Resolve n) = λ p _ q _.
       let because = reason (denial K s (literal-on n (s .open-clause)) .content) in
       let k = and-parts (some (λ k. eqb (number k) n) (s .open-clause)) (ltb 0 because) q in
-      record { core = h .core; phased = resolve-opened K (s .model) (s .switches) (s .denominator) (s .clauses) (s .trail) (h .core) n (s .open-clause) (opened s h p) (k .0) (ltb-true 0 because (k .1)) }
+      record { counted = h .counted; core = h .core; phased = resolve-opened K (s .model) (s .switches) (s .denominator) (s .clauses) (s .trail) (h .core) n (s .open-clause) (opened s h p) (k .0) (ltb-true 0 because (k .1)) }
   kept-by-step s h (Jump l) = λ p _ _ kn il q.
       let top = top-of K s (s .open-clause) in
       let next = top-of K s (others l (s .open-clause)) in
       let k = and-parts (ltb 0 top) (eqb (false-at (s .trail) l) top) q in
       let above : 0 < top = ltb-true 0 top (k .0) in
       let at-top : false-at (s .trail) l ≡ top = eqb-true (false-at (s .trail) l) top (k .1) in (
-        λ y. forced-held s l h p kn il (let v = ltb-true next top y in omega arith),
-        λ _ _. split-held s l (top - 1) h p kn il (omega arith),
+        λ y. forced-held s l h p (in-use s h (number l) kn) il (let v = ltb-true next top y in omega arith),
+        λ _ _. split-held s l (top - 1) h p (in-use s h (number l) kn) il (omega arith),
       )
   kept-by-step s h Concede = λ p z.
-      record { core = h .core; phased = nothing-left K (s .model) (s .switches) (s .denominator) (s .clauses) (s .trail) (h .core) (s .open-clause) (opened s h p) (eqb-true (top-of K s (s .open-clause)) 0 z) }
+      record { counted = h .counted; core = h .core; phased = nothing-left K (s .model) (s .switches) (s .denominator) (s .clauses) (s .trail) (h .core) (s .open-clause) (opened s h p) (eqb-true (top-of K s (s .open-clause)) 0 z) }
   kept-by-step s h Claim = λ p _ rs y. record {
+    counted = h .counted;
     core = h .core;
     phased = (
       (length-map-counting (λ n. on-trail (pos n) (s .trail)) 1 (s .switches), length-map-counting (λ j. value j (s .trail)) 1 (K .measures (s .model)), h .core .positive),
@@ -300,7 +328,7 @@ module _ (K : Kind) (L : Lawful K) where
       rules-met K (s .model) (s .switches) (arranged K s) (s .clauses) rs,
     );
   }
-  kept-by-step s h Abandon = λ _. record { core = h .core; phased = tt }
+  kept-by-step s h Abandon = λ _. record { counted = h .counted; core = h .core; phased = tt }
 
   pub step-held : (s : State K) → Held K s → (c : Call) → Held K (step K s c .1)
   step-held s h c = stepped K (λ o. Held K (o .1)) s (λ _. h) c (kept-by-step s h c)
@@ -350,7 +378,7 @@ module _ (K : Kind) (L : Lawful K) where
       sensed l (Literal k o) p x = subst (λ i. readable K m w t (number i) ≡ true → by-values K m w d t i ≡ true) (same-true k l p) x
 
   pub fresh-held : Held K (fresh K)
-  fresh-held = record { core = empty-core K (K .begun) 0 1 (omega arith); phased = (refl, refl) }
+  fresh-held = record { core = empty-core K (K .begun) 0 1 (omega arith); phased = (refl, refl, L .no-atoms); counted = let z = L .no-atoms in omega arith }
 
   pub held : (cs : List Call) → Held K (run K cs)
   held cs = after-held (fresh K) fresh-held cs

@@ -27,10 +27,10 @@ use Rattle.calculus.specs.Kinds.{Kind}
 use Rattle.calculus.specs.Trails.{false-on, false-at, taken, valued, choices, reason, enter, enter-choice, reading, reading-level}
 use Rattle.calculus.specs.Trails.Origin.{Chosen, Propagated, Read as As-read}
 use Rattle.calculus.specs.Trails.Content.{Value, Literal}
-use Rattle.calculus.specs.States.{State, is-new, is-drafting, is-searching, is-analysing, clause, numbers, meets}
+use Rattle.calculus.specs.States.{State, is-new, is-drafting, is-searching, is-analysing, clause, meets}
 use Rattle.calculus.specs.States.Phase.{Analysing, Closed}
 use Rattle.calculus.specs.States.Verdict.{Impossible, Possible, Undecided}
-use Rattle.calculus.specs.Steps.{Reply, Outcome, need, asked, if-vouched, if-admitted, there, has-room, readable-in, bears, denial, top-of, arranged, drafted, sealed, with-model, with-clause, with-trail, turned, forced, split, literal-on, others, others-false, resolvent, all-read, step}
+use Rattle.calculus.specs.Steps.{Reply, Outcome, need, asked, if-vouched, if-admitted, there, has-room, readable-in, bears, denial, top-of, arranged, drafted, sealed, with-model, with-atom, with-clause, with-trail, turned, forced, split, literal-on, others, others-false, resolvent, all-read, step}
 use Rattle.calculus.specs.Steps.Reply.{Done, Handed}
 
 module _ (K : Kind) (P : Outcome K → Type 0) (s : State K) where
@@ -38,7 +38,7 @@ module _ (K : Kind) (P : Outcome K → Type 0) (s : State K) where
   abbrev pub Taken-so : Call → Type 0
   Taken-so (Counts w t) = is-new (s .phase) ≡ true → leb w most-numbers ≡ true → (n : K .Model) → K .count (s .model) t ≡ inr n → P (Ok Done, drafted K s w n)
   Taken-so (Declare body) = is-drafting (s .phase) ≡ true → (n : K .Model) → K .declare (s .model) body ≡ inr n → P (Ok Done, with-model K s n)
-  Taken-so (Admit body) = (is-drafting (s .phase) || is-searching (s .phase)) ≡ true → ltb (numbers K s) most-numbers ≡ true → (n : K .Model) → K .admit (s .model) body ≡ inr n → P (Ok Done, with-model K s n)
+  Taken-so (Admit body) = (is-drafting (s .phase) || is-searching (s .phase)) ≡ true → ltb (s .numbers) most-numbers ≡ true → (n : K .Model) → K .admit (s .model) body ≡ inr n → P (Ok Done, with-atom K s n)
   Taken-so (Rule ls) = is-drafting (s .phase) ≡ true → has-room K s ≡ true → every proper ls ≡ true → clause-like ls ≡ true → every (λ l. there K s (number l)) ls ≡ true → P (Ok Done, with-clause K s ls true)
   Taken-so (Seal d) = is-drafting (s .phase) ≡ true → within most-denominator d ≡ true → P (Ok Done, sealed K s d)
   Taken-so (Lemma ls hint) = is-searching (s .phase) ≡ true → has-room K s ≡ true → every proper ls ≡ true → clause-like ls ≡ true → every (λ l. there K s (number l)) ls ≡ true → K .vouched (s .model) (s .switches) ls hint ≡ Vouched → P (Ok Done, with-clause K s ls false)
@@ -91,7 +91,7 @@ module _ (K : Kind) (P : Outcome K → Type 0) (s : State K) where
     pub stepped : (c : Call) → Taken-so c → P (step K s c)
     stepped (Counts w t) h = tested (is-new (s .phase)) _ _ λ a. tested (leb w most-numbers) _ _ λ b. by-theory (K .count (s .model) t) (drafted K s w) (h a b)
     stepped (Declare body) h = tested (is-drafting (s .phase)) _ _ λ a. by-theory (K .declare (s .model) body) (with-model K s) (h a)
-    stepped (Admit body) h = tested (is-drafting (s .phase) || is-searching (s .phase)) _ _ λ a. tested (ltb (numbers K s) most-numbers) _ _ λ b. by-theory (K .admit (s .model) body) (with-model K s) (h a b)
+    stepped (Admit body) h = tested (is-drafting (s .phase) || is-searching (s .phase)) _ _ λ a. tested (ltb (s .numbers) most-numbers) _ _ λ b. by-theory (K .admit (s .model) body) (with-atom K s) (h a b)
     stepped (Rule ls) h =
         tested (is-drafting (s .phase)) _ _ λ a. tested (has-room K s) _ _ λ b. tested (every proper ls) _ _ λ c. tested (clause-like ls) _ _ λ d. tested (every (λ l. there K s (number l)) ls) _ _ λ e. h a b c d e
     stepped (Seal d) h = tested (is-drafting (s .phase)) _ _ λ a. tested (within most-denominator d) _ _ λ b. h a b

@@ -14,7 +14,7 @@ use Rattle.calculus.specs.Kinds.{Kind}
 use Rattle.calculus.specs.Trails.{Content, Entry, choice, choices, up-to, readable, reading-level}
 use Rattle.calculus.specs.Trails.Origin.{Chosen, Propagated, Read}
 use Rattle.calculus.specs.Trails.Content.{Value, Literal}
-use Rattle.calculus.specs.States.{Stored, State, is-analysing, clause, numbers}
+use Rattle.calculus.specs.States.{Stored, State, is-analysing, clause}
 use Rattle.calculus.specs.Steps.{others-false, run}
 
 -- at most 16 literals on different numbers, each one of the numbers 1 to n
@@ -51,16 +51,18 @@ Read-right K m w t (Literal l (Propagated c)) k = Unit {0}
 Read-right K m w t (Literal l Read) k = (readable K m w t (number l) ≡ true) × (k ≡ reading-level K m w t (number l))
 
 pub record Bounded (K : Kind) (s : State K) : Type 0 where
-  pub few-numbers : numbers K s ≤ most-numbers
+  -- the numbers in use are the switches and the atoms
+  pub numbers-are : s .numbers ≡ s .switches + K .atoms (s .model)
+  pub few-numbers : s .numbers ≤ most-numbers
   pub few-measures : K .measures (s .model) ≤ most-measures
   pub few-clauses : length (s .clauses) ≤ most-clauses
-  pub each-clause : All (λ r. Clause-up-to (numbers K s) (r .literals)) (s .clauses)
-  pub open-clause : Clause-up-to (numbers K s) (s .open-clause)
+  pub each-clause : All (λ r. Clause-up-to (s .numbers) (r .literals)) (s .clauses)
+  pub open-clause : Clause-up-to (s .numbers) (s .open-clause)
   -- there is none but while analysing
   pub no-open : is-analysing (s .phase) ≡ false → s .open-clause ≡ []
   pub denominator : within most-denominator (s .denominator) ≡ true
-  pub short-trail : length (s .trail) ≤ numbers K s + K .measures (s .model)
-  pub each-entry : All (λ e. Content-up-to (numbers K s) (K .measures (s .model)) (e .content)) (s .trail)
+  pub short-trail : length (s .trail) ≤ s .numbers + K .measures (s .model)
+  pub each-entry : All (λ e. Content-up-to (s .numbers) (K .measures (s .model)) (e .content)) (s .trail)
   pub levels : All (λ e. e .level ≤ choices (s .trail)) (s .trail)
   pub choice-levels : Numbered 0 (s .trail)
   pub reasons : All-reasoned (s .clauses) [] (s .trail)

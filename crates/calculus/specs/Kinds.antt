@@ -130,6 +130,9 @@ pub record Lawful (K : Kind) : Type 0 where
   pub fair : (m : K .Model) (xs ys : List ℤ) (d e : ℕ) → Whole K m xs d → Whole K m ys e
       → ((j : ℕ) → 0 < j → j ≤ K .measures m → Same-fraction (nth (pos 0) xs j) d (nth (pos 0) ys j) e)
       → K .admitted m xs d ≡ Yes → K .admitted m ys e ≡ Yes
+  -- an atom that is not there mentions nothing and is true nowhere
+  pub absent-mentions : (m : K .Model) (a j : ℕ) → within (K .atoms m) a ≡ false → 0 < j → K .mentioned m a j ≡ false
+  pub absent-false : (m : K .Model) (a : ℕ) (xs : List ℤ) (d : ℕ) → within (K .atoms m) a ≡ false → K .truth m a xs d ≡ false
   -- an atom is said to equate two measures only if all three are there, and every arrangement makes it true exactly when they are equal
   pub equated-there : (m : K .Model) (a i j : ℕ) → K .equated m a i j ≡ true → (within (K .atoms m) a ≡ true) × (within (K .measures m) i ≡ true) × (within (K .measures m) j ≡ true)
   pub equating : (m : K .Model) (a i j : ℕ) → K .equated m a i j ≡ true → (xs : List ℤ) (d : ℕ) → Whole K m xs d

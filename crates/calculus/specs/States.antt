@@ -64,6 +64,8 @@ clause store c = getD store (c - 1) (record { literals = []; rule = false }) .li
 pub record State (K : Kind) : Type 0 where
   pub phase : Phase
   pub switches : ℕ
+  -- the numbers in use: the switches, then the atoms
+  pub numbers : ℕ
   -- of all values; 1 until the draft is sealed
   pub denominator : ℕ
   pub model : K .Model
@@ -77,11 +79,7 @@ pub record State (K : Kind) : Type 0 where
 module _ (K : Kind) where
   -- just made: nothing is stored, nothing is on the trail, the theory is as it begins
   abbrev pub fresh : State K
-  fresh = record { phase = New; switches = 0; denominator = 1; model = K .begun; clauses = []; trail = []; open-clause = [] }
-
-  -- the numbers in use: the switches, then the atoms
-  abbrev pub numbers : State K → ℕ
-  numbers s = s .switches + K .atoms (s .model)
+  fresh = record { phase = New; switches = 0; numbers = 0; denominator = 1; model = K .begun; clauses = []; trail = []; open-clause = [] }
 
   -- the number is true in the arrangement: its switch is yes, or its atom true, where the numbers up to w are switches
   abbrev pub holds : K .Model → ℕ → Arrangement → ℕ → Bool

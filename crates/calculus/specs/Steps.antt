@@ -32,7 +32,7 @@ use Rattle.calculus.specs.Kinds.{Kind}
 use Rattle.calculus.specs.Trails.{Entry, entry-for, affirms, was-read, reason, on-trail, false-on, false-at, taken, valued, choices, up-to, enter, enter-choice, readable, reading-level, numerators, reading, stays-true}
 use Rattle.calculus.specs.Trails.Origin.{Chosen, Propagated, Read as As-read}
 use Rattle.calculus.specs.Trails.Content.{Value, Literal}
-use Rattle.calculus.specs.States.{Phase, Stored, State, is-new, is-drafting, is-searching, is-analysing, clause, fresh, numbers, meets}
+use Rattle.calculus.specs.States.{Phase, Stored, State, is-new, is-drafting, is-searching, is-analysing, clause, fresh, meets}
 use Rattle.calculus.specs.States.Phase.{Drafting, Searching, Analysing, Closed}
 use Rattle.calculus.specs.States.Verdict.{Impossible, Possible, Undecided}
 
@@ -87,7 +87,7 @@ module _ (K : Kind) where
 
   -- one of the numbers in use
   abbrev pub there : State K → ℕ → Bool
-  there s n = within (numbers K s) n
+  there s n = within (s .numbers) n
 
   -- room for one clause more
   abbrev pub has-room : State K → Bool
@@ -113,23 +113,27 @@ module _ (K : Kind) where
   arranged s = record { switches = map (λ n. on-trail (pos n) (s .trail)) (counting 1 (s .switches)); numerators = numerators K (s .model) (s .trail); denominator = s .denominator }
 
   abbrev pub drafted : State K → ℕ → K .Model → State K
-  drafted s w m = record { phase = Drafting; switches = w; denominator = s .denominator; model = m; clauses = s .clauses; trail = s .trail; open-clause = s .open-clause }
+  drafted s w m = record { phase = Drafting; switches = w; numbers = w; denominator = s .denominator; model = m; clauses = s .clauses; trail = s .trail; open-clause = s .open-clause }
 
   abbrev pub sealed : State K → ℕ → State K
-  sealed s d = record { phase = Searching; switches = s .switches; denominator = d; model = s .model; clauses = s .clauses; trail = s .trail; open-clause = s .open-clause }
+  sealed s d = record { phase = Searching; switches = s .switches; numbers = s .numbers; denominator = d; model = s .model; clauses = s .clauses; trail = s .trail; open-clause = s .open-clause }
 
   abbrev pub with-model : State K → K .Model → State K
-  with-model s m = record { phase = s .phase; switches = s .switches; denominator = s .denominator; model = m; clauses = s .clauses; trail = s .trail; open-clause = s .open-clause }
+  with-model s m = record { phase = s .phase; switches = s .switches; numbers = s .numbers; denominator = s .denominator; model = m; clauses = s .clauses; trail = s .trail; open-clause = s .open-clause }
+
+  -- with one number more, for the atom just admitted
+  abbrev pub with-atom : State K → K .Model → State K
+  with-atom s m = record { phase = s .phase; switches = s .switches; numbers = s .numbers + 1; denominator = s .denominator; model = m; clauses = s .clauses; trail = s .trail; open-clause = s .open-clause }
 
   abbrev pub with-clause : State K → List ℤ → Bool → State K
-  with-clause s ls rule = record { phase = s .phase; switches = s .switches; denominator = s .denominator; model = s .model; clauses = s .clauses ++ record { literals = ls; rule = rule } ∷ []; trail = s .trail; open-clause = s .open-clause }
+  with-clause s ls rule = record { phase = s .phase; switches = s .switches; numbers = s .numbers; denominator = s .denominator; model = s .model; clauses = s .clauses ++ record { literals = ls; rule = rule } ∷ []; trail = s .trail; open-clause = s .open-clause }
 
   abbrev pub with-trail : State K → List Entry → State K
-  with-trail s t = record { phase = s .phase; switches = s .switches; denominator = s .denominator; model = s .model; clauses = s .clauses; trail = t; open-clause = s .open-clause }
+  with-trail s t = record { phase = s .phase; switches = s .switches; numbers = s .numbers; denominator = s .denominator; model = s .model; clauses = s .clauses; trail = t; open-clause = s .open-clause }
 
   -- another phase, with another open clause
   abbrev pub turned : State K → Phase → List ℤ → State K
-  turned s p ls = record { phase = p; switches = s .switches; denominator = s .denominator; model = s .model; clauses = s .clauses; trail = s .trail; open-clause = ls }
+  turned s p ls = record { phase = p; switches = s .switches; numbers = s .numbers; denominator = s .denominator; model = s .model; clauses = s .clauses; trail = s .trail; open-clause = ls }
 
   -- back to the level k: the entries above it go, the open clause is stored, the search resumes
   abbrev pub resumed : State K → ℕ → State K
@@ -153,8 +157,8 @@ module _ (K : Kind) where
       (asked (K .declare (s .model) body) s (with-model s))
   step s (Admit body) =
       need (is-drafting (s .phase) || is-searching (s .phase)) (session.State WrongPhase) s
-      (need (ltb (numbers K s) most-numbers) (session.State Full) s
-      (asked (K .admit (s .model) body) s (with-model s)))
+      (need (ltb (s .numbers) most-numbers) (session.State Full) s
+      (asked (K .admit (s .model) body) s (with-atom s)))
   step s (Rule ls) =
       need (is-drafting (s .phase)) (session.State WrongPhase) s
       (need (has-room s) (session.State Full) s

@@ -1,6 +1,8 @@
 // The calculus: what a theory is, as a trait with its laws, and the law that holds of every run over every
 // lawful theory. The states, the calls and what each call does are definitions, in specs/.
 ghost use mathlib.Core.Path.{_≡_};
+ghost use Prim.Native.Nat.{_≤_};
+ghost use Rattle.calculus.specs.Limits.{most-measures};
 ghost use Rattle.calculus.specs.Kinds.{Kind, Lawful};
 ghost use Rattle.calculus.specs.Questions.{Moves, says-mentioned, says-true, says-admitted};
 ghost use Rattle.calculus.specs.Sound.{Every-run-sound};
@@ -38,6 +40,9 @@ pub trait Theory: Sized {
     ghost model: { Self → kind .Model };
 
     law lawful: { Lawful kind };
+
+    // it never has more measures than there can be
+    law few: { (x : Self) → kind .measures (model x) ≤ most-measures };
 
     // As it begins, without measures and atoms.
     fn begin() -> Self

@@ -235,6 +235,8 @@ module _ (K : Kind) (L : Lawful K) where
         ap (λ j. raised-judgement j (judging K (consistent (m .applications) ys))) (L .fair (m .below) xs ys d e p q h (z .0))
         ∙ ap (judging K) (sym (consistent-same (K .measures (m .below)) xs ys d e (p .0) (q .0) (p .1) (q .1) h (m .applications)))
         ∙ z .1;
+    absent-mentions = λ m. L .absent-mentions (m .below);
+    absent-false = λ m. L .absent-false (m .below);
     equated-there = λ m. L .equated-there (m .below);
     equating = λ m. L .equating (m .below);
     vouched-there = λ m s ls hint e. vouching-fair m s ls hint .0 e .0;

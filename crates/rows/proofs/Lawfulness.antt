@@ -7,7 +7,8 @@ use Prim.Native.Nat.{ℕ, zero, suc, _+_, _-_, _*_, _<_, _≤_}
 use native.Mathlib.Omega.{arith}
 use lib.Dec.{leb, ltb, eqb}
 use lib.ListN.{length, getD, length-append, List·getD-append}
-use lib.IntN.{ℤ, pos}
+use lib.IntN.{ℤ, pos, zero-*ℤ}
+use lib.Signed.{ltZ}
 use Rattle.std.proofs.shelf.Tests.{and-parts, false≢true, le-leb, lt-leb}
 use Rattle.faults.specs.declared.InputCause.the-variants.{WrongLength, OutOfRange}
 use Rattle.faults.specs.declared.StateCause.the-variants.{WrongPhase, Full}
@@ -21,6 +22,7 @@ use Rattle.calculus.specs.declared.Vouching.the-variants.{Vouched, Unvouched, R
 use Rattle.calculus.specs.Lists.{every, some, nth}
 use Rattle.calculus.specs.Limits.{most-measures, within, sized}
 use Rattle.calculus.specs.Kinds.{Kind, Lawful, One-more, Only-counted, Narrower, In-pile, Refused-for}
+use Rattle.calculus.proofs.Tabling.{nth-absent}
 use Rattle.rows.specs.Bounds.{most-atoms, most-size}
 use Rattle.rows.specs.Rows.{Row, no-row, true-of, mentions}
 use Rattle.rows.specs.Bodies.{byte-at, row-in, proper-row}
@@ -184,6 +186,8 @@ linear-lawful = record {
   hint-layer = λ m s clause hint f e. in-pile (theory-code f .layer) (answer m s clause hint (Refused f) e);
   local = λ m a xs ys d e p q h. locals.local (atom m a) (m .measures) xs ys d e (p .0) (q .0) (p .1) (q .1) h;
   fair = λ m xs ys d e p q h y. refl;
+  absent-mentions = λ m a j e p. ap (mentions j) (nth-absent no-row (m .rows) a e);
+  absent-false = λ m a xs d e. ap (λ r. true-of r xs d) (nth-absent no-row (m .rows) a e) ∙ ap (ltZ (pos 0)) (zero-*ℤ (pos d));
   equated-there = λ m a i j t. let p = equated-parts m a i j t in (p .0, p .1, p .2);
   equating = λ m a i j t xs d w. locals.equates-so i j (atom m a) xs d (equated-parts m a i j t .3);
   vouched-there = λ m s clause hint e. answer m s clause hint Vouched e .0;

@@ -64,6 +64,8 @@ switches-lawful = record {
   hint-layer = λ m s ls hint f e. let same : unknown hint ≡ f = cc in let z : theory-code f .layer ≡ 1 = ap (λ h. theory-code h .layer) (sym same) ∙ unknown-layer hint in (omega arith, omega arith);
   local = λ m a xs ys d e p q h. refl;
   fair = λ m xs ys d e p q h y. y;
+  absent-mentions = λ m a j e p. refl;
+  absent-false = λ m a xs d e. refl;
   equated-there = λ m a i j e. absurd (true≢false (sym e));
   equating = λ m a i j e. absurd (true≢false (sym e));
   vouched-there = λ m s ls hint e. let z : _≡_ {A = ℕ} 0 1 = cc in absurd (omega arith);

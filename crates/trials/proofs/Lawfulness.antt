@@ -9,7 +9,7 @@ use native.Mathlib.Omega.{arith}
 use lib.Dec.{ltb, leb, eqb}
 use lib.ListN.{length, getD, length-append, List·getD-append, List·getD-eq-default}
 use lib.IntN.{ℤ, pos, negsuc, negℤ, _*ℤ_, pos-*ℤ-pos, negsuc-*ℤ-pos, zero-*ℤ}
-use Rattle.std.proofs.shelf.Tests.{true≢false, and-parts, or-cases, or-left, or-right, leb-true, leb-false, le-leb, lt-leb, ltb-true, eqb-true, eq-eqb, cases-lt, cases-bool, cond-true, cond-false, cond-both, not-true}
+use Rattle.std.proofs.shelf.Tests.{true≢false, and-parts, or-cases, or-left, or-right, leb-true, leb-false, le-leb, lt-leb, ltb-true, eqb-true, eq-eqb, ne-eqb, cases-lt, cases-bool, cond-true, cond-false, cond-both, not-true}
 use Rattle.faults.specs.declared.InputCause.the-variants.{WrongLength, OutOfRange}
 use Rattle.faults.specs.declared.StateCause.the-variants.{WrongPhase}
 use Rattle.faults.specs.declared.TheoryFault.{TheoryFault}
@@ -23,8 +23,9 @@ use Rattle.calculus.specs.Limits.{most-measures, within}
 use Rattle.calculus.specs.Literals.{number, signed}
 use Rattle.calculus.specs.Arrangements.{Same-fraction}
 use Rattle.calculus.specs.Kinds.{Kind, Lawful, Only-counted, One-more, Narrower, In-pile, some-atom}
+use Rattle.calculus.proofs.Tabling.{nth-absent}
 use Rattle.trials.specs.Signs as spec
-use Rattle.trials.specs.Signs.{Signs, Sign, sign, atom, with-count, with-atom, with-signed, too-many, not-zero, judged, alike, affirms-sign, both-signs, signs}
+use Rattle.trials.specs.Signs.{Signs, Sign, sign, no-atom, atom, with-count, with-atom, with-signed, too-many, not-zero, judged, alike, affirms-sign, both-signs, signs}
 
 never : {A B : Type 0} (f : TheoryFault) (n : A) → inl f ≡ inr n → B
 never f n e = let z : _≡_ {A = ℕ} 0 1 = cc in absurd (omega arith)
@@ -241,6 +242,8 @@ signs-lawful = record {
       ap judged (every-same (not-zero ys) (not-zero xs)
       (λ j. let same : (b : Bool) → sign b (nth (pos 0) ys j) ≡ sign b (nth (pos 0) xs j) = λ b. sym (sign-local b j (m .measures) xs ys d e (p .0) (q .0) (p .1) (q .1) (h j)) in
       ap (λ b. b || sign false (nth (pos 0) ys j)) (same true) ∙ ap (λ b. sign true (nth (pos 0) xs j) || b) (same false)) (m .signed)) ∙ y;
+  absent-mentions = λ m a j e p. ap (λ r. eqb (r .measure) j) (nth-absent no-atom (m .atoms) a e) ∙ ne-eqb 0 j (λ q. omega arith);
+  absent-false = λ m a xs d e. ap (λ r. sign (r .negative) (nth (pos 0) xs (r .measure))) (nth-absent no-atom (m .atoms) a e);
   equated-there = λ m a i j e. absurd (true≢false (sym e));
   equating = λ m a i j e. absurd (true≢false (sym e));
   vouched-there = λ m s ls hint e. let v = vouched-so m s ls hint e in and-parts (every (λ l. within (s + length (m .atoms)) (number l)) ls) (some (eqb (v .0)) (m .signed) && (some (affirms-sign m s (v .0) true) ls && some (affirms-sign m s (v .0) false) ls)) (v .1) .0;

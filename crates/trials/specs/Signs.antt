@@ -40,8 +40,11 @@ pub record Signs : Type 0 where
   pub signed : List ℕ
 
 -- an atom that is not there is about no measure
+abbrev pub no-atom : Sign
+no-atom = record { measure = 0; negative = true }
+
 abbrev pub atom : Signs → ℕ → Sign
-atom m a = nth (record { measure = 0; negative = true }) (m .atoms) a
+atom m a = nth no-atom (m .atoms) a
 
 abbrev pub with-count : Signs → ℕ → Signs
 with-count m t = record { counted = true; measures = t; atoms = m .atoms; signed = m .signed }
