@@ -1,9 +1,9 @@
 -- What the proofs on the entries of a row want.
-use mathlib.Core.Path.{_≡_, refl, sym, ap, ap₂, subst, _∙_}
+use mathlib.Core.Path.{_≡_, refl, ap, ap₂, _∙_}
 use mathlib.Core.List.{List, [], _∷_, _++_, map}
 use mathlib.Core.Logic.{_⊎_, inl, inr}
-use mathlib.Core.Bool.{Bool, true, false, cond, _&&_}
-use Prim.Native.Nat.{ℕ, zero, suc, _+_, _-_, _*_, _≤_, _<_}
+use mathlib.Core.Bool.{Bool, true, false, _&&_}
+use Prim.Native.Nat.{ℕ, zero, suc, _+_, _-_, _≤_, _<_}
 use native.Mathlib.Omega.{arith}
 use lib.IntN.{ℤ, pos, negsuc, natAbs, negℤ}
 use lib.Dec.{eqb, leb}
@@ -18,9 +18,8 @@ use Rattle.rows.specs.Bounds.{most-size}
 use Rattle.linear.specs.declared.atoms.Atom.{Atom}
 use Rattle.rows.specs.declared.Relation.{Relation}
 use Rattle.rows.specs.Rows.{same-entries, turned-entry, turned}
-use Rattle.rows.specs.Linear.{on-both, opposite, opposed}
 use Rattle.linear.specs.Views.{row, small-entries, bounded}
-use Rattle.linear.proofs.Sums.{sized-abs, every-at, nth-place}
+use Rattle.linear.proofs.Sums.{sized-abs, every-at}
 
 -- what a look-up past the end of a table of entries gives
 abbrev pub no-entry : Entry
@@ -71,19 +70,6 @@ length-over f xs ys i h e =
     let c = length-drop i xs in
     let d = ap length e in
     omega arith
-
--- a pair of entries
-pub opposed-pair : (i j : ℕ) (es : List Entry) → length es ≡ 2 → opposed i j es ≡ (on-both i j (getD es 0 no-entry) (getD es 1 no-entry) && opposite (getD es 0 no-entry) (getD es 1 no-entry))
-opposed-pair i j [] h = absurd (omega arith)
-opposed-pair i j (e ∷ []) h = absurd (omega arith)
-opposed-pair i j (e ∷ f ∷ []) h = refl
-opposed-pair i j (e ∷ f ∷ g ∷ gs) h = absurd (omega arith)
-
-pub no-pair : (i j : ℕ) (es : List Entry) → (length es ≡ 2 → ⊥) → opposed i j es ≡ false
-no-pair i j [] h = refl
-no-pair i j (e ∷ []) h = refl
-no-pair i j (e ∷ f ∷ []) h = absurd (h refl)
-no-pair i j (e ∷ f ∷ g ∷ gs) h = refl
 
 pub sized-turned : (n : ℕ) (z : ℤ) → sized n (negℤ z) ≡ sized n z
 sized-turned n (pos zero) = refl

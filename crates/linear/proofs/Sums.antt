@@ -1,12 +1,11 @@
 -- What the proofs of the sums want: the size of a product, and one more summand.
 use mathlib.Core.Path.{_≡_, refl, sym, ap, ap₂, subst, _∙_}
-use mathlib.Core.List.{List, [], _∷_, _++_, map}
-use mathlib.Core.Bool.{Bool, true, false, cond, _&&_}
+use mathlib.Core.List.{List, [], _∷_, _++_}
+use mathlib.Core.Bool.{Bool, true}
 use Prim.Native.Nat.{ℕ, zero, suc, _+_, _-_, _*_, _≤_, _<_}
 use native.Mathlib.Nat.{mul-le-mul}
 use native.Mathlib.Omega.{arith}
 use lib.IntN.{ℤ, pos, negsuc, _+ℤ_, _*ℤ_, negℤ, natAbs, +ℤ-idl, +ℤ-idr, +ℤ-assoc}
-use lib.Dec.{leb, ltb}
 use lib.ListN.{getD, take, length}
 use mir.Syntax.{w32, w64}
 use mir.Val.{SFits, toZ, ofZ}

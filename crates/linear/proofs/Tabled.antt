@@ -1,13 +1,13 @@
 -- What the proofs on the table of atoms want.
-use mathlib.Core.Path.{_≡_, refl, sym, ap, ap₂, subst, _∙_}
+use mathlib.Core.Path.{_≡_, refl, sym, ap, ap₂, _∙_}
 use mathlib.Core.List.{List, [], _∷_, _++_, map}
-use mathlib.Core.Bool.{Bool, true, false, not, _&&_}
+use mathlib.Core.Bool.{Bool, true, not, _&&_}
 use Prim.Native.Nat.{ℕ, zero, suc, _+_, _-_, _≤_, _<_}
 use native.Mathlib.Omega.{arith}
 use lib.Dec.{ltb, leb}
 use lib.IntN.{pos}
 use lib.ListN.{getD, set, take, drop, length}
-use Rattle.std.proofs.shelf.Lists.{length-map, length-take-le, getD-map, getD-take, take-more, take-more-set, map-push, drop-more, drop-all}
+use Rattle.std.proofs.shelf.Lists.{length-map, length-take-le, getD-map, getD-take, take-more, take-more-set, map-push, drop-more}
 use Rattle.std.proofs.shelf.Counted.{length-map-counting, getD-map-counting}
 use Rattle.std.proofs.shelf.Tests.{and-parts, and-from, ltb-true, leb-true}
 use Rattle.calculus.specs.Limits.{sized}
@@ -17,9 +17,9 @@ use Rattle.rows.specs.declared.Relation.the-variants.{Less}
 use Rattle.rows.specs.declared.Entry.{Entry}
 use Rattle.linear.specs.declared.atoms.Atom.{Atom}
 use Rattle.rows.specs.Bounds.{most-size}
-use Rattle.rows.specs.Rows.{Row, no-row}
+use Rattle.rows.specs.Rows.{no-row}
 use Rattle.rows.specs.Bodies.{entry-at, entries-in, follows, in-order}
-use Rattle.linear.specs.Views.{row, small-entries, bounded}
+use Rattle.linear.specs.Views.{row}
 use Rattle.linear.proofs.Sums.{nth-place, nth-absent}
 use Rattle.linear.proofs.Listed.{no-entry}
 

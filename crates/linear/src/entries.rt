@@ -4,7 +4,7 @@ ghost use mathlib.Core.Bool.{true, _&&_};
 ghost use Prim.Native.Nat.{_≤_};
 ghost use lib.Dec.{eqb};
 ghost use lib.ListN.{length};
-ghost use lib.IntN.{natAbs, pos, _*ℤ_, negℤ};
+ghost use lib.IntN.{natAbs, pos, _*ℤ_};
 ghost use Rattle.calculus.specs.Limits.{sized, most-measures, most-numerator};
 ghost use Rattle.rows.specs.Bounds.{most-size};
 ghost use Rattle.calculus.specs.Lists.{every, some, nth};

@@ -4,7 +4,6 @@ ghost use mathlib.Core.Bool.{true, false, _&&_, _||_};
 ghost use Prim.Native.Nat.{_+_, _<_, _≤_};
 ghost use lib.ListN.{length, getD};
 ghost use lib.IntN.{natAbs, pos, _*ℤ_};
-ghost use lib.Signed.{ltZ};
 ghost use Rattle.std.specs.Iters.{counting};
 ghost use Rattle.calculus.specs.Limits.{within};
 ghost use Rattle.calculus.specs.Lists.{every, some};

@@ -1,9 +1,9 @@
 -- Denials that multipliers refute cannot all be true, so some literal of the clause is.
-use mathlib.Core.Path.{_≡_, refl, sym, ap, ap₂, subst, _∙_}
+use mathlib.Core.Path.{_≡_, refl, sym, ap, ap₂, _∙_}
 use mathlib.Core.List.{List, [], _∷_, map}
 use mathlib.Core.Logic.{_⊎_, inl, inr}
-use mathlib.Core.Bool.{Bool, true, false, cond, not, _&&_, _||_}
-use Prim.Native.Nat.{ℕ, zero, suc, _+_, _-_, _*_, _≤_, _<_}
+use mathlib.Core.Bool.{Bool, true, false, cond, _&&_, _||_}
+use Prim.Native.Nat.{ℕ, zero, suc, _+_, _-_, _≤_, _<_}
 use native.Mathlib.Omega.{arith}
 use lib.IntN.{ℤ, pos, negsuc, _+ℤ_, _*ℤ_, negℤ, zero-*ℤ, *ℤ-zero, +ℤ-idr, +ℤ-idl, negℤ-+ℤ}
 use lib.Signed.{ltZ, leZ, _≤ℤ_, _<ℤ_}
@@ -21,9 +21,9 @@ use Rattle.calculus.specs.Literals.{same, number, signed}
 use Rattle.rows.specs.declared.Relation.{Relation}
 use Rattle.rows.specs.declared.Relation.the-variants.{Less, AtMost, Equal}
 use Rattle.rows.specs.declared.Entry.{Entry}
-use Rattle.rows.specs.Rows.{Row, no-row, total, weight, compares, true-of, coefficient-of, turned-entry, turned, same-relation}
+use Rattle.rows.specs.Rows.{Row, no-row, total, weight, compares, true-of, coefficient-of, turned-entry, same-relation}
 use Rattle.rows.specs.Hints.{denied-row, denial-of, allowed, coefficient-in, constant-in, strict, Part, column, constants, refutes, row-of, denial, parts}
-use Rattle.rows.proofs.Integers.{*ℤ-+ℤ, +ℤ-*ℤ, *ℤ-assoc, neg-*ℤ, *ℤ-neg, swap-sums, same-true, times-le, times-lt, neg-times}
+use Rattle.rows.proofs.Integers.{*ℤ-+ℤ, +ℤ-*ℤ, *ℤ-assoc, neg-*ℤ, swap-sums, same-true, times-le, times-lt, neg-times}
 
 -- the columns: a sum over the measures, one measure after another
 past-take : (n : ℕ) (xs : List ℤ) (i : ℕ) → n ≤ i → getD (take n xs) i (pos 0) ≡ pos 0

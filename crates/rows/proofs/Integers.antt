@@ -1,11 +1,11 @@
 -- Laws of sums and products of whole numbers.
 use mathlib.Core.Path.{_≡_, refl, sym, ap, subst, _∙_}
-use mathlib.Core.Bool.{Bool, true, false}
-use Prim.Native.Nat.{ℕ, zero, suc, _+_, _*_, _≤_, _<_}
-use native.Mathlib.Nat.{mul-add, add-mul, mul-assoc, mul-comm, mul-le-mul-left, mul-lt-mul-of-pos-left, mul-lt-mul-of-pos-right}
+use mathlib.Core.Bool.{true}
+use Prim.Native.Nat.{ℕ, _+_, _*_, _≤_, _<_}
+use native.Mathlib.Nat.{mul-add, add-mul, mul-assoc, mul-le-mul-left, mul-lt-mul-of-pos-left, mul-lt-mul-of-pos-right}
 use native.Mathlib.Omega.{arith}
 use lib.IntN.{ℤ, pos, negsuc, _+ℤ_, _*ℤ_, negℤ, *ℤ-comm}
-use lib.Signed.{ltZ, leZ, _≤ℤ_, _<ℤ_}
+use lib.Signed.{_≤ℤ_, _<ℤ_}
 use lib.Dec.{eqb}
 use Rattle.std.proofs.shelf.Signed.{ints}
 use Rattle.std.proofs.shelf.Tests.{eqb-true, eq-eqb, false≢true}
@@ -26,9 +26,6 @@ pub +ℤ-*ℤ : (a b c : ℤ) → (a +ℤ b) *ℤ c ≡ a *ℤ c +ℤ b *ℤ c
 spread-left : (p q r s t : ℕ) → (p * q + r * s) * t ≡ p * (q * t) + r * (s * t)
 spread-left p q r s t = add-mul (p * q) (r * s) t ∙ ap (λ x. x + r * s * t) (mul-assoc p q t) ∙ ap (λ x. p * (q * t) + x) (mul-assoc r s t)
 
-spread-right : (t p q r s : ℕ) → t * (p * q + r * s) ≡ t * (p * q) + t * (r * s)
-spread-right t p q r s = mul-add t (p * q) (r * s)
-
 pub *ℤ-assoc : (a b c : ℤ) → a *ℤ b *ℤ c ≡ a *ℤ (b *ℤ c)
 *ℤ-assoc a b c =
     let x₁ = ap (λ (x : ℕ). x * up c) (product-is a b .0) ∙ spread-left (up a) (up b) (down a) (down b) (up c) in
@@ -43,9 +40,6 @@ pub *ℤ-assoc : (a b c : ℤ) → a *ℤ b *ℤ c ≡ a *ℤ (b *ℤ c)
 
 pub neg-*ℤ : (a b : ℤ) → negℤ a *ℤ b ≡ negℤ (a *ℤ b)
 neg-*ℤ a b = omega (arith, ints, ap (λ (x : ℕ). x * up b) (neg-is a .0), ap (λ (x : ℕ). x * up b) (neg-is a .1), ap (λ (x : ℕ). x * down b) (neg-is a .0), ap (λ (x : ℕ). x * down b) (neg-is a .1))
-
-pub *ℤ-neg : (a b : ℤ) → a *ℤ negℤ b ≡ negℤ (a *ℤ b)
-*ℤ-neg a b = *ℤ-comm a (negℤ b) ∙ neg-*ℤ b a ∙ ap negℤ (*ℤ-comm b a)
 
 pub swap-sums : (a b c d : ℤ) → (a +ℤ b) +ℤ (c +ℤ d) ≡ (a +ℤ c) +ℤ (b +ℤ d)
 swap-sums a b c d = omega (arith, ints)

@@ -1,27 +1,25 @@
 -- The linear theory keeps the laws.
 use mathlib.Core.Path.{_≡_, refl, sym, ap, subst, _∙_}
 use mathlib.Core.Bool.{Bool, true, false, not, cond, _&&_}
-use mathlib.Core.List.{List, [], _∷_, _++_}
-use mathlib.Core.Logic.{_⊎_, inl, inr, _↔_}
-use Prim.Native.Nat.{ℕ, zero, suc, _+_, _-_, _*_, _<_, _≤_}
+use mathlib.Core.List.{List, [], _∷_}
+use mathlib.Core.Logic.{_⊎_, inl, inr}
+use Prim.Native.Nat.{ℕ, zero, suc, _+_, _*_, _<_, _≤_}
 use native.Mathlib.Omega.{arith}
 use lib.Dec.{leb, ltb, eqb}
-use lib.ListN.{length, getD, length-append, List·getD-append}
+use lib.ListN.{length, length-append, List·getD-append}
 use lib.IntN.{ℤ, pos, zero-*ℤ}
 use lib.Signed.{ltZ}
-use Rattle.std.proofs.shelf.Tests.{and-parts, false≢true, le-leb, lt-leb}
-use Rattle.faults.specs.declared.InputCause.the-variants.{WrongLength, OutOfRange}
-use Rattle.faults.specs.declared.StateCause.the-variants.{WrongPhase, Full}
+use Rattle.std.proofs.shelf.Tests.{and-parts, le-leb, lt-leb}
+use Rattle.faults.specs.declared.InputCause.the-variants.{OutOfRange}
+use Rattle.faults.specs.declared.StateCause.the-variants.{WrongPhase}
 use Rattle.faults.specs.declared.TheoryFault.{TheoryFault}
 use Rattle.faults.specs.declared.TheoryFault.the-variants as theory
 use Rattle.faults.specs.Causes.{theory-code}
-use Rattle.calculus.specs.declared.Judgement.{Judgement}
-use Rattle.calculus.specs.declared.Judgement.the-variants.{Yes, No}
 use Rattle.calculus.specs.declared.Vouching.{Vouching}
 use Rattle.calculus.specs.declared.Vouching.the-variants.{Vouched, Unvouched, Refused}
-use Rattle.calculus.specs.Lists.{every, some, nth}
+use Rattle.calculus.specs.Lists.{every, some}
 use Rattle.calculus.specs.Limits.{most-measures, within, sized}
-use Rattle.calculus.specs.Kinds.{Kind, Lawful, One-more, Only-counted, Narrower, In-pile, Refused-for}
+use Rattle.calculus.specs.Kinds.{Lawful, One-more, In-pile, Refused-for}
 use Rattle.calculus.proofs.Tabling.{nth-absent}
 use Rattle.rows.specs.Bounds.{most-atoms, most-size}
 use Rattle.rows.specs.Rows.{Row, no-row, true-of, mentions}

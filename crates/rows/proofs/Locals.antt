@@ -1,15 +1,14 @@
 -- Equal fractions make a row true alike; and an atom that equates two measures.
-use mathlib.Core.Path.{_≡_, refl, sym, ap, ap₂, subst, _∙_}
+use mathlib.Core.Path.{_≡_, refl, sym, ap, ap₂, _∙_}
 use mathlib.Core.List.{List, [], _∷_}
 use mathlib.Core.Logic.{_⊎_, inl, inr, _↔_}
-use mathlib.Core.Bool.{Bool, true, false, not, cond, _&&_, _||_}
-use Prim.Native.Nat.{ℕ, zero, suc, _+_, _*_, _≤_, _<_}
+use mathlib.Core.Bool.{Bool, true, false, not, _&&_, _||_}
+use Prim.Native.Nat.{ℕ, zero, suc, _≤_, _<_}
 use native.Mathlib.Omega.{arith}
-use native.Mathlib.Nat.{mul-pos}
-use lib.IntN.{ℤ, pos, negsuc, _+ℤ_, _*ℤ_, negℤ, zero-*ℤ, *ℤ-zero, *ℤ-comm}
+use lib.IntN.{ℤ, pos, negsuc, _+ℤ_, _*ℤ_, negℤ, zero-*ℤ, *ℤ-comm}
 use lib.Signed.{ltZ, leZ, _≤ℤ_, _<ℤ_}
 use lib.Dec.{eqb}
-use lib.ListN.{length, getD}
+use lib.ListN.{length}
 use Rattle.std.proofs.shelf.Signed.{ints, by-ltZ}
 use Rattle.std.proofs.shelf.Lists.{getD-past}
 use Rattle.std.proofs.shelf.Tests.{eqb-true, eq-eqb, cases-lt, cases-bool, and-parts, or-cases, or-left, or-right, not-true, both-ways, false≢true}
@@ -21,7 +20,7 @@ use Rattle.rows.specs.declared.Relation.the-variants.{Less, AtMost, Equal}
 use Rattle.rows.specs.declared.Entry.{Entry}
 use Rattle.rows.specs.Rows.{Row, weight, compares, true-of, mentions, same-relation}
 use Rattle.rows.specs.Linear.{opposed, equates}
-use Rattle.rows.proofs.Integers.{*ℤ-+ℤ, +ℤ-*ℤ, *ℤ-assoc, neg-*ℤ, *ℤ-neg, same-true, same-same, times-le, times-lt}
+use Rattle.rows.proofs.Integers.{+ℤ-*ℤ, *ℤ-assoc, neg-*ℤ, same-true, same-same, times-le, times-lt}
 
 -- comparisons do not change when both sides are multiplied by a positive number
 under : (a b : ℤ) → ltZ a b ≡ true → a <ℤ b
@@ -175,9 +174,6 @@ opposed-so i j (e ∷ f ∷ []) xs t = by (or-cases _ _ (a .0))
 
     z : e .coefficient +ℤ f .coefficient ≡ pos 0
     z = same-true _ _ (b .0)
-
-    X : ℕ → ℤ
-    X k = nth (pos 0) xs k
 
     n : same (e .coefficient) (pos 0) ≡ false
     n = not-true _ (b .1)

@@ -1,5 +1,5 @@
 -- A clause that affirms row = c, row < c and turned row < turned c is true in every arrangement.
-use mathlib.Core.Path.{_≡_, refl, sym, ap, ap₂, subst, _∙_}
+use mathlib.Core.Path.{_≡_, refl, ap₂, subst, _∙_}
 use mathlib.Core.List.{List, [], _∷_, map}
 use mathlib.Core.Logic.{_⊎_, inl, inr}
 use mathlib.Core.Bool.{Bool, true, false, cond, _&&_}
@@ -16,7 +16,7 @@ use Rattle.rows.specs.declared.Relation.{Relation}
 use Rattle.rows.specs.declared.Relation.the-variants.{Less, AtMost, Equal}
 use Rattle.rows.specs.declared.Entry.{Entry}
 use Rattle.rows.specs.Rows.{Row, weight, compares, true-of, turned-entry, turned, related-by, same-relation, same-entries, same-row}
-use Rattle.rows.specs.Hints.{row-of, affirms, some-affirms, splits}
+use Rattle.rows.specs.Hints.{row-of, affirms, some-affirms, halved, splits}
 use Rattle.rows.proofs.Integers.{same-true, same-same, neg-*ℤ}
 use Rattle.rows.proofs.Farkas.{weight-turned, true-by}
 
@@ -83,12 +83,9 @@ module _ (rows : List Row) (s : ℕ) (xs : List ℤ) (d : ℕ) where
   pub split : (ls : List ℤ) → splits rows s ls ≡ true → some (true-by rows s xs d) ls ≡ true
   split ls t = by (cases-bool (some (true-by rows s xs d) ls))
     where
-      test : Row → Bool
-      test r = same-relation (r .relation) Equal && (some-affirms rows s ls (related-by Less r) && some-affirms rows s ls (turned Less r))
-
       no-way : some (true-by rows s xs d) ls ≡ false → ⊥
       no-way f =
-          let w = some-false (λ r. same-relation (r .relation) Equal && (some-affirms rows s ls (related-by Less r) && some-affirms rows s ls (turned Less r))) ls t f in
+          let w = some-false (halved rows s ls) ls t f in
           let r = w .0 in
           let a = and-parts (same-relation (r .relation) Equal) (some-affirms rows s ls (related-by Less r) && some-affirms rows s ls (turned Less r)) (w .1) in
           let b = and-parts (some-affirms rows s ls (related-by Less r)) (some-affirms rows s ls (turned Less r)) (a .1) in

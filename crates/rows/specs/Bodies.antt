@@ -1,6 +1,6 @@
 -- An atom's body: the relation (1 for <, 2 for ≤, 3 for =), the count k of entries, k times a measure and
 -- four bytes of its coefficient, and four bytes of the constant.
-use mathlib.Core.Bool.{Bool, true, false, not, cond, _&&_}
+use mathlib.Core.Bool.{Bool, true, not, cond, _&&_}
 use mathlib.Core.List.{List, [], _∷_, map}
 use Prim.Native.Nat.{ℕ, _+_, _*_}
 use lib.Dec.{eqb, ltb, leb}
@@ -46,6 +46,7 @@ row-in body = record {
 abbrev pub follows : ℕ → ℕ → Entry → Bool
 follows t k e = (ltb k (e .measure) && leb (e .measure) t) && (sized most-size (e .coefficient) && not (same (e .coefficient) (pos 0)))
 
+-- each entry may follow the one before it, the first one on the measure k
 abbrev pub in-order : ℕ → ℕ → List Entry → Bool
 in-order t k [] = true
 in-order t k (e ∷ es) = follows t k e && in-order t (e .measure) es

@@ -1,9 +1,9 @@
 -- The hints that show that a clause is true in every arrangement: multipliers for the denials of its literals, or
 -- a split of row = c into row < c and its turned row.
-use mathlib.Core.Bool.{Bool, true, false, cond, _&&_, _||_}
+use mathlib.Core.Bool.{Bool, false, cond, _&&_, _||_}
 use mathlib.Core.List.{List, [], _∷_, map}
 use Prim.Native.Nat.{ℕ, _+_, _-_, _*_}
-use lib.Dec.{eqb, leb}
+use lib.Dec.{leb}
 use lib.ListN.{length}
 use lib.IntN.{ℤ, pos, negsuc, _*ℤ_}
 use lib.Signed.{ltZ, leZ}
@@ -33,7 +33,7 @@ abbrev pub denial-of : ℤ → Row → Option Row
 denial-of (pos n) r = denied-row (r .relation) r
 denial-of (negsuc n) r = Some r
 
--- a multiplier that may be given to a denial
+-- a multiplier that may be given to a denial: not negative for < and ≤, any for =, and 0 where the denial is no row
 abbrev pub allowed : Option Row → ℤ → Bool
 allowed None x = same x (pos 0)
 allowed (Some r) x = same-relation (r .relation) Equal || leZ (pos 0) x
@@ -56,6 +56,7 @@ strict (Some r) x = same-relation (r .relation) Less && ltZ (pos 0) x
 abbrev pub Part : Type 0
 Part = ℤ × Option Row
 
+-- what multiplier times coefficient adds to at the measure j, and multiplier times constant
 abbrev pub column : ℕ → List Part → ℤ
 column j ps = total (λ p. p .0 *ℤ coefficient-in j (p .1)) ps
 
@@ -78,6 +79,7 @@ module _ (rows : List Row) (s : ℕ) where
   abbrev pub denial : ℤ → Option Row
   denial l = cond (leb (number l) s) None (denial-of l (row-of l))
 
+  -- each multiplier with the denial of its literal, in the order of the clause
   abbrev pub parts : List ℤ → List ℤ → List Part
   parts [] xs = []
   parts (l ∷ ls) [] = []
@@ -91,6 +93,7 @@ module _ (rows : List Row) (s : ℕ) where
   affirms p (pos n) = cond (leb n s) false (p (row-of (pos n)))
   affirms p (negsuc n) = false
 
+  -- the clause affirms an atom with just this row
   abbrev pub some-affirms : List ℤ → Row → Bool
   some-affirms ls r = some (affirms (same-row r)) ls
 
@@ -98,6 +101,7 @@ module _ (rows : List Row) (s : ℕ) where
   abbrev pub halved : List ℤ → Row → Bool
   halved ls r = same-relation (r .relation) Equal && (some-affirms ls (related-by Less r) && some-affirms ls (turned Less r))
 
+  -- it affirms such an equality
   abbrev pub splits : List ℤ → Bool
   splits ls = some (affirms (halved ls)) ls
 

@@ -30,7 +30,7 @@ pub record Table : Type 0 where
   pub measures : ℕ
   pub rows : List Row
 
--- all its refusals are of the layer 1
+-- all its refusals are of layer 1
 abbrev pub input : InputCause → TheoryFault
 input c = theory.Input c 1
 
@@ -38,6 +38,7 @@ input c = theory.Input c 1
 abbrev pub need : {M : Type 0} → Bool → TheoryFault → TheoryFault ⊎ M → TheoryFault ⊎ M
 need test f next = cond test next (inl f)
 
+-- the count is taken once
 abbrev pub counting-of : Table → ℕ → TheoryFault ⊎ Table
 counting-of m t =
     need (not (m .counted)) (theory.State WrongPhase 1)
@@ -51,6 +52,7 @@ declaring m body = need (ltb 0 (length body)) (input WrongLength) (inl (input Ou
 abbrev pub with-row : Table → Row → Table
 with-row m r = record { counted = m .counted; measures = m .measures; rows = m .rows ++ r ∷ [] }
 
+-- a body is tested in this order, and its row is added
 abbrev pub admitting : Table → List ℕ → TheoryFault ⊎ Table
 admitting m body =
     need (ltb 0 (length body)) (input WrongLength)
@@ -60,6 +62,7 @@ admitting m body =
     (need (proper-row (m .measures) (row-in body)) (input OutOfRange)
     (inr (with-row m (row-in body)))))))
 
+-- the row of an atom, counted from 1
 abbrev pub atom : Table → ℕ → Row
 atom m a = nth no-row (m .rows) a
 
@@ -71,6 +74,7 @@ on-both i j e f = (eqb (e .measure) i && eqb (f .measure) j) || (eqb (e .measure
 abbrev pub opposite : Entry → Entry → Bool
 opposite e f = same (e .coefficient +ℤ f .coefficient) (pos 0) && not (same (e .coefficient) (pos 0))
 
+-- there are just two such entries
 abbrev pub opposed : ℕ → ℕ → List Entry → Bool
 opposed i j [] = false
 opposed i j (e ∷ []) = false

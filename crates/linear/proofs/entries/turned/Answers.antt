@@ -1,9 +1,9 @@
-use mathlib.Core.Path.{_≡_, sym, ap, ap₂, _∙_}
+use mathlib.Core.Path.{_≡_, ap, ap₂, _∙_}
 use mathlib.Core.List.{_++_, map}
 use native.Mathlib.Omega.{arith}
 use borrow.Author.Needs.{needs}
 use Prim.Native.Nat.{_<_}
-use lib.ListN.{length, getD, set, take, drop}
+use lib.ListN.{length, getD, set}
 use Rattle.std.proofs.shelf.Edits.{map-over-more}
 use Rattle.std.proofs.shelf.Lists.{getD-default, take-all, drop-all, append-nil}
 use Rattle.calculus.specs.Limits.{sized}

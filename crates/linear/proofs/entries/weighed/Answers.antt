@@ -1,9 +1,9 @@
-use mathlib.Core.Path.{_≡_, sym, ap, _∙_}
+use mathlib.Core.Path.{sym, ap, _∙_}
 use native.Mathlib.Omega.{arith}
 use borrow.Author.Needs.{needs}
-use Prim.Native.Nat.{_≤_, _<_}
-use lib.IntN.{pos, natAbs, _*ℤ_, _+ℤ_}
-use lib.ListN.{getD, take, length}
+use Prim.Native.Nat.{_<_}
+use lib.IntN.{pos, _*ℤ_, _+ℤ_}
+use lib.ListN.{getD, take}
 use mir.Syntax.{w32}
 use mir.Val.{SFits}
 use Rattle.std.proofs.shelf.Signed.{ints}

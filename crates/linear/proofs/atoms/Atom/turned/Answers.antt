@@ -1,14 +1,10 @@
-use mathlib.Core.Path.{_≡_, ap, _∙_}
-use mathlib.Core.List.{map}
+use mathlib.Core.Path.{_≡_}
 use native.Mathlib.Omega.{arith}
 use lib.IntN.{negℤ, pos, _-ℤ_}
-use lib.ListN.{take}
 use mir.Syntax.{w32}
 use mir.Val.{toZ, ofZ}
 use Rattle.std.proofs.shelf.Signed.{ints}
-use Rattle.std.proofs.shelf.Lists.{take-map}
-use Rattle.rows.specs.Rows.{turned-entry}
-use Rattle.linear.proofs.Listed.{Bounded, bounded-so, turned-row-is, turned-bounded}
+use Rattle.linear.proofs.Listed.{bounded-so, turned-row-is, turned-bounded}
 use Rattle.linear.proofs.atoms.Atom.turned.Needs as need
 
 pub returns : need.returns

@@ -1,4 +1,4 @@
-use mathlib.Core.Path.{_≡_, sym, _∙_}
+use mathlib.Core.Path.{sym, _∙_}
 use Rattle.linear.specs.Models.{table}
 use Rattle.linear.specs.Views.{row}
 use Rattle.linear.proofs.Hinted.{halved-by, not-halved}

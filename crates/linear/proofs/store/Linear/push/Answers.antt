@@ -1,7 +1,6 @@
 use mathlib.Core.Path.{ap, _∙_}
 use native.Mathlib.Omega.{arith}
 use Rattle.std.proofs.shelf.Lists.{length-set}
-use Rattle.rows.specs.Linear.{Table}
 use Rattle.linear.specs.Views.{bounded}
 use Rattle.linear.proofs.Tabled.{rows-push, every-set}
 use Rattle.linear.proofs.store.Linear.push.Needs as need

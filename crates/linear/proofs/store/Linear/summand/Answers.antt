@@ -9,7 +9,6 @@ use Rattle.std.specs.declared.option.Option.{Option}
 use Rattle.std.proofs.shelf.Signed.{ints, toZ-ofZ}
 use Rattle.linear.specs.Models.{table}
 use Rattle.rows.specs.Rows.{Row}
-use Rattle.rows.specs.Hints.{Part}
 use Rattle.linear.proofs.Hinted.{multiplier-at, multiplier-small, hinted-at}
 use Rattle.linear.proofs.store.Linear.summand.Needs as need
 
