@@ -1,8 +1,9 @@
-// Lists what a case and its log say: reads the two in one frame from standard input, and writes a line for each
-// record, in words and numbers, up to the end or the first fault. What the case gives to the theory that the frame
-// names is taken to it, and written in words too.
+// Lists what a case and its log say: reads the two in one frame from standard input, takes each record to a session
+// over the theory that the frame names, and writes a line for it, in words and numbers, with what the session did, up
+// to the end or the first fault.
 mod lines;
 mod taking;
+mod telling;
 mod words;
 
 use calculus::Theory;
@@ -10,8 +11,6 @@ use congruence::CongruenceTheory;
 use faults::FileFault;
 use faults::InputCause;
 use faults::SessionFault;
-use faults::TheoryFault;
-use files::Call;
 use files::FileKind;
 use files::Frame;
 use files::Listing;
@@ -28,48 +27,52 @@ use std::io;
 use std::io::Read;
 use switches::Switches;
 use switches::SwitchesTheory;
-use taking::Taken;
-use taking::TakenDisplay;
+use taking::Held;
 use taking::Taker;
+use telling::Done;
+use telling::DoneDisplay;
+use words::BodyWords;
+use words::BodyWordsDisplay;
 
-// Takes a call of a case to the theory; a log has nothing for it yet.
-fn take<'a, T: Theory>(
-    taker: &mut Taker<T>,
-    kind: FileKind,
-    call: Call<'a>,
-) -> Result<Taken<'a>, TheoryFault> {
-    match kind {
-        FileKind::Case => taker.take(call),
-        FileKind::Log => Ok(Taken::Nothing),
-    }
-}
-
-// The line of a record, with what the theory took of it, or its refusal.
-fn write_record<T: Theory>(
+// The line of a record, with what the session did; the answer is its refusal, if it refused.
+fn write_line(
     rt: &LibcRuntime,
-    taker: &mut Taker<T>,
-    kind: FileKind,
-    record: &Record,
+    line: Line,
+    done: Result<Done, SessionFault>,
 ) -> io::Result<Option<FileFault>> {
-    let call = match record.call(kind) {
-        Ok(call) => call,
-        Err(fault) => return Ok(Some(fault)),
-    };
-    let line = Line {
-        kind,
-        number: record.number,
-        start: record.start,
-        call,
-    };
-    match take(taker, kind, call) {
-        Ok(taken) => {
-            println!(rt, "{line}{taken}")?;
+    match done {
+        Ok(done) => {
+            let body = BodyWords(line.call);
+            println!(rt, "{line}{done}{body}")?;
             Ok(None)
         }
         Err(fault) => {
             println!(rt, "{line}")?;
-            Ok(Some(FileFault::Session(SessionFault::Theory(fault))))
+            Ok(Some(FileFault::Session(fault)))
         }
+    }
+}
+
+// Takes a record to the session, and writes its line.
+fn write_record<T: Theory>(
+    rt: &LibcRuntime,
+    taker: &mut Taker<T>,
+    held: Held,
+    kind: FileKind,
+    record: &Record,
+) -> (Held, io::Result<Option<FileFault>>) {
+    match record.call(kind) {
+        Ok(call) => {
+            let line = Line {
+                kind,
+                number: record.number,
+                start: record.start,
+                call,
+            };
+            let (held, done) = taker.step(held, call);
+            (held, write_line(rt, line, done))
+        }
+        Err(fault) => (held, Ok(Some(fault))),
     }
 }
 
@@ -77,41 +80,80 @@ fn write_record<T: Theory>(
 fn write_records<T: Theory>(
     rt: &LibcRuntime,
     taker: &mut Taker<T>,
+    held: Held,
     kind: FileKind,
     listing: &Listing,
-) -> io::Result<Option<Stop>> {
+) -> (Held, io::Result<Option<Stop>>) {
+    let mut held = held;
     for record in listing.records.as_slice() {
-        if let Some(fault) = write_record(rt, taker, kind, record)? {
-            return Ok(Some(Stop {
-                number: record.number,
-                byte: record.start,
-                fault,
-            }));
+        let (next, written) = write_record(rt, taker, held, kind, record);
+        held = next;
+        match written {
+            Ok(None) => {}
+            Ok(Some(fault)) => {
+                let stop = Stop {
+                    number: record.number,
+                    byte: record.start,
+                    fault,
+                };
+                return (held, Ok(Some(stop)));
+            }
+            Err(error) => return (held, Err(error)),
         }
     }
-    Ok(listing.stop)
+    (held, Ok(listing.stop))
 }
 
-// Lists one file, and says whether all of it was read.
-fn list<T: Theory>(
+// The last line of a file; says whether all of it was read.
+fn write_end(
     rt: &LibcRuntime,
-    taker: &mut Taker<T>,
     kind: FileKind,
-    file: &[u8],
+    count: usize,
+    stop: Option<Stop>,
 ) -> io::Result<bool> {
-    let listing = read_all(rt.alloc(), kind, file)?;
     let file = kind.number();
-    match write_records(rt, taker, kind, &listing)? {
+    match stop {
         Some(stop) => {
             let refusal = Refusal { file, stop };
             println!(rt, "{refusal}")?;
             Ok(false)
         }
         None => {
-            let count = listing.records.len();
             println!(rt, "file {file}: {count} records")?;
             Ok(true)
         }
+    }
+}
+
+// Lists one file, and says whether all of it was read.
+fn list<T: Theory>(
+    rt: &LibcRuntime,
+    taker: &mut Taker<T>,
+    held: Held,
+    kind: FileKind,
+    file: &[u8],
+) -> (Held, io::Result<bool>) {
+    let listing = match read_all(rt.alloc(), kind, file) {
+        Ok(listing) => listing,
+        Err(error) => return (held, Err(error.into())),
+    };
+    let (held, written) = write_records(rt, taker, held, kind, &listing);
+    match written {
+        Ok(stop) => (held, write_end(rt, kind, listing.records.len(), stop)),
+        Err(error) => (held, Err(error)),
+    }
+}
+
+// Lists the case, and the log if all of the case was read.
+fn list_both<T: Theory>(
+    rt: &LibcRuntime,
+    taker: &mut Taker<T>,
+    frame: Frame,
+) -> (Held, io::Result<bool>) {
+    let (held, written) = list(rt, taker, Held::Nothing, FileKind::Case, frame.case);
+    match written {
+        Ok(true) => list(rt, taker, held, FileKind::Log, frame.log),
+        _ => (held, written),
     }
 }
 
@@ -119,8 +161,11 @@ fn list_over<T: Theory + Drop>(rt: &LibcRuntime, frame: Frame, name: &str) -> io
     let theory = frame.theory;
     println!(rt, "theory {theory}: {name}")?;
     let mut taker = Taker::<T>::new();
-    if list(rt, &mut taker, FileKind::Case, frame.case)? {
-        list(rt, &mut taker, FileKind::Log, frame.log)?;
+    let (held, written) = list_both(rt, &mut taker, frame);
+    let is_closed = taker.is_closed();
+    taker.end(held);
+    if written? && !is_closed {
+        println!(rt, "none: the log ends unclosed")?;
     }
     Ok(())
 }

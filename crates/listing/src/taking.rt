@@ -1,70 +1,80 @@
-// What a theory takes of a case: the counts, the declarations and the atoms.
-use crate::words::ApplicationWords;
-use crate::words::ApplicationWordsDisplay;
-use crate::words::AtomWords;
-use crate::words::AtomWordsDisplay;
+// Takes the calls of a case and its log to a session.
+use crate::telling::Done;
 use calculus::Theory;
-use faults::TheoryFault;
+use faults::SessionFault;
 use files::Call;
-use std::fmt;
+use session::Conflict;
+use session::Permit;
+use session::Session;
+use session::phase::Phase;
 
-// A theory, with the count of switches, which come before its atoms.
-#[derive(Drop)]
-pub struct Taker<T> {
-    theory: T,
-    switches: u8,
+mod analysing;
+mod drafting;
+mod searching;
+
+// What the session gave out and did not get back yet.
+pub enum Held {
+    Nothing,
+    Draft(Permit),
+    Analysis(Conflict),
 }
 
-// What was taken.
+// A session, with the denominator of its values.
 #[derive(Drop)]
-pub enum Taken<'a> {
-    Nothing,
-    Counts,
-    Application(&'a [u8]),
-    Atom { number: usize, body: &'a [u8] },
+pub struct Taker<T> {
+    session: Session<T>,
+    denominator: u32,
 }
 
 impl<T: Theory> Taker<T> {
     pub fn new() -> Taker<T> {
         Taker {
-            theory: T::begin(),
-            switches: 0,
+            session: Session::new(),
+            denominator: 1,
         }
     }
 
-    // Takes a record's call to the theory, if it is one for it.
-    pub fn take<'a>(&mut self, call: Call<'a>) -> Result<Taken<'a>, TheoryFault> {
-        match call {
-            Call::Counts { switches, measures } => {
-                self.theory.counts(measures)?;
-                self.switches = switches;
-                Ok(Taken::Counts)
+    pub fn is_closed(&self) -> bool {
+        match self.session.phase() {
+            Phase::Impossible | Phase::Possible | Phase::Undecided => true,
+            _ => false,
+        }
+    }
+
+    // Takes one call: what is held goes in, and what is held then comes out.
+    pub fn step(&mut self, held: Held, call: Call) -> (Held, Result<Done, SessionFault>) {
+        match (held, call) {
+            (Held::Nothing, Call::Counts { switches, measures }) => self.counts(switches, measures),
+            (Held::Draft(permit), Call::Declare(body)) => {
+                let done = self.declare(&permit, body);
+                (Held::Draft(permit), done)
             }
-            Call::Declare(body) => {
-                self.theory.declare(body)?;
-                Ok(Taken::Application(body))
+            (Held::Draft(permit), Call::Rule(literals)) => {
+                let done = self.rule(&permit, literals);
+                (Held::Draft(permit), done)
             }
-            Call::Admit(body) => {
-                self.theory.admit(body)?;
-                let number = usize::from(self.switches) + usize::from(self.theory.atoms());
-                Ok(Taken::Atom { number, body })
+            (Held::Draft(permit), Call::Seal(denominator)) => self.seal(permit, denominator),
+            (Held::Nothing, Call::Conflict(clause)) => self.conflict(clause),
+            (Held::Analysis(conflict), Call::Resolve(number)) => {
+                let done = self.resolve(&conflict, number);
+                (Held::Analysis(conflict), done)
             }
-            _ => Ok(Taken::Nothing),
+            (Held::Analysis(conflict), Call::Jump(literal)) => self.jump(conflict, literal),
+            (Held::Analysis(conflict), Call::Concede) => self.concede(conflict),
+            (Held::Analysis(conflict), Call::Abandon) => self.abandon(conflict),
+            (held, call) => (held, self.search(call)),
         }
     }
 }
 
-pub impl fmt::Display for Taken<'_> as TakenDisplay {
-    fn fmt<W: fmt::Write>(&self, f: &mut fmt::Formatter<W>) -> fmt::Result {
-        match self {
-            Taken::Nothing => Ok(()),
-            Taken::Counts => write!(f, " - taken"),
-            Taken::Application(body) => write!(f, " - taken: {}", ApplicationWords(body)),
-            Taken::Atom { number, body } => write!(
-                f,
-                " - taken: atom {number} is {}",
-                AtomWords(body)
-            ),
+impl<T: Theory + Drop> Taker<T> {
+    // Ends the session with what is held.
+    pub fn end(self, held: Held) {
+        let Taker { session, .. } = self;
+        match held {
+            Held::Nothing => {}
+            Held::Draft(_) => {}
+            Held::Analysis(conflict) => session.leave(conflict),
         }
     }
 }

@@ -1,13 +1,18 @@
 // Atoms and applications in words, from the bodies that wrote them.
+use files::Call;
 use std::fmt;
+
+// The words of the body that a call hands to the theory, if it does.
+#[derive(Drop)]
+pub struct BodyWords<'a>(pub Call<'a>);
 
 // An atom of the linear theory, as `m1 + m2 <= 60`.
 #[derive(Drop)]
-pub struct AtomWords<'a>(pub &'a [u8]);
+struct AtomWords<'a>(&'a [u8]);
 
 // An application, as `f7(m1, m3) = m2`.
 #[derive(Drop)]
-pub struct ApplicationWords<'a>(pub &'a [u8]);
+struct ApplicationWords<'a>(&'a [u8]);
 
 // One term of a row; the first is written without a blank before its sign.
 #[derive(Drop)]
@@ -44,7 +49,7 @@ fn word(body: &[u8], at: usize) -> i32 {
     }
 }
 
-pub impl fmt::Display for AtomWords<'_> as AtomWordsDisplay {
+impl fmt::Display for AtomWords<'_> as AtomWordsDisplay {
     fn fmt<W: fmt::Write>(&self, f: &mut fmt::Formatter<W>) -> fmt::Result {
         let [relation, count, ..] = self.0 else {
             return Ok(());
@@ -73,7 +78,7 @@ pub impl fmt::Display for AtomWords<'_> as AtomWordsDisplay {
     }
 }
 
-pub impl fmt::Display for ApplicationWords<'_> as ApplicationWordsDisplay {
+impl fmt::Display for ApplicationWords<'_> as ApplicationWordsDisplay {
     fn fmt<W: fmt::Write>(&self, f: &mut fmt::Formatter<W>) -> fmt::Result {
         let body = self.0;
         let n = body.len();
@@ -89,5 +94,15 @@ pub impl fmt::Display for ApplicationWords<'_> as ApplicationWordsDisplay {
         }
         let result = body[n - 1];
         write!(f, ") = m{result}")
+    }
+}
+
+pub impl fmt::Display for BodyWords<'_> as BodyWordsDisplay {
+    fn fmt<W: fmt::Write>(&self, f: &mut fmt::Formatter<W>) -> fmt::Result {
+        match self.0 {
+            Call::Declare(body) => write!(f, "{}", ApplicationWords(body)),
+            Call::Admit(body) => write!(f, "{}", AtomWords(body)),
+            _ => Ok(()),
+        }
     }
 }

@@ -1,0 +1,2 @@
+pub mod Arranging
+pub mod Views

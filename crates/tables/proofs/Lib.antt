@@ -1,0 +1,10 @@
+pub mod Finding
+pub mod Tidying
+pub mod Narrowing
+pub mod Counting
+pub mod Tables
+pub mod Keeping
+pub mod Weighing
+pub mod Sifting
+pub mod Resolving
+pub mod Dropping
