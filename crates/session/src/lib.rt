@@ -26,7 +26,7 @@ use phase::Phase;
 pub struct Permit(u8);
 
 // A conflict under analysis: given by conflict, lent to resolve, and spent by jump, concede or abandon. It cannot be
-// let go of otherwise.
+// dropped; `leave` ends it too, but only together with the session.
 pub struct Conflict(u8);
 
 // A session over a theory.
