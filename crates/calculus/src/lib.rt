@@ -1,5 +1,7 @@
 // The calculus: what a theory is, as a trait with its laws, and the law that holds of every run over every
 // lawful theory. The states, the calls and what each call does are definitions, in specs/.
+#![tactic(auto)]
+
 ghost use Rattle.std.specs.Prelude.{◌≡◌, ◌≤◌};
 ghost use Rattle.calculus.specs.Limits.{most_measures};
 ghost use Rattle.calculus.specs.Kinds.{Kind, Lawful};

@@ -1,4 +1,6 @@
 // What a claim needs: which rules the values on a trail meet, and the arrangement that the trail makes.
+#![tactic(auto)]
+
 ghost use Rattle.std.specs.Prelude.{◌≡◌, ℕ, Bool, true, not, ◌&&◌, ◌||◌, ℤ, pos, nat_lt};
 ghost use Rattle.std.specs.List.{range_with_len};
 ghost use Rattle.calculus.specs.Lists.{every};

@@ -1,4 +1,6 @@
 // Carries calls out on a session: a list of them, or those that the records of a case and its log write.
+#![tactic(auto)]
+
 pub mod held;
 pub mod orders;
 mod records;

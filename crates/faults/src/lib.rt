@@ -1,5 +1,7 @@
 // Why something is refused. The causes in the input and the causes in the state are two lists; a fault
 // is a cause together with where it arose: in a file, in the session, or in one layer of the theory.
+#![tactic(auto)]
+
 ghost use Rattle.std.specs.Prelude.{◌≡◌};
 ghost use Rattle.faults.specs.declared.SessionFault.TheVariants.{Theory};
 ghost use Rattle.faults.specs.declared.FileFault.TheVariants.{Session};

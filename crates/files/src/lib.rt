@@ -1,4 +1,6 @@
 // The two files that a checker is given: their records one by one, and the call that each record writes.
+#![tactic(auto)]
+
 mod calls;
 mod frames;
 mod reading;

@@ -1,4 +1,6 @@
 // The linear theory: atoms are rows over the measures, compared with a constant by <, ≤ or =.
+#![tactic(auto)]
+
 mod atoms;
 mod bodies;
 mod bounds;

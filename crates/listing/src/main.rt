@@ -1,6 +1,8 @@
 // Lists what a case and its log say: reads the two in one frame from standard input, takes each record to a session
 // over the theory that the frame names, and writes a line for it, in words and numbers, with what the session did, up
 // to the end or the first fault.
+#![tactic(auto)]
+
 mod lines;
 mod taking;
 mod telling;

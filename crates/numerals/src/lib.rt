@@ -1,4 +1,6 @@
 // The numbers that bytes write: big-endian, signed ones in two's complement.
+#![tactic(auto)]
+
 ghost use Rattle.std.specs.Prelude.{◌≡◌};
 ghost use Rattle.numerals.specs.Numbers.{two_bytes, four_bytes, signed_byte, signed_word};
 

@@ -1,4 +1,6 @@
 // Theories piled up: each pile is lawful because its layers are, so the law over every run holds of it.
+#![tactic(auto)]
+
 ghost use Rattle.calculus.specs.Sound.{EveryRunSound};
 ghost use Rattle.piles.specs.Piles.{congruent_linear, twice_congruent};
 ghost use Rattle.piles.specs.Examples.{ExamplesStand};

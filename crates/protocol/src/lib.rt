@@ -1,5 +1,7 @@
 // How the tokens of a session are used. A permit is lent to each rule and moved into seal; a conflict is lent to each
 // resolution and ends on every path. The edits under does-not-build/ break this, and the compiler refuses them.
+#![tactic(auto)]
+
 use calculus::Theory;
 use faults::SessionFault;
 use session::Session;

@@ -1,5 +1,7 @@
 // What the values on a trail make of the atoms of a theory. Numbers up to the count of switches are switches, and
 // those behind them the atoms of the theory.
+#![tactic(auto)]
+
 ghost use Rattle.std.specs.Prelude.{◌≡◌, ℕ, ◌-◌, Bool, true, not, ◌||◌, ℤ, if◌then◌else◌};
 ghost use Rattle.std.specs.List.{range_with_len};
 ghost use Rattle.calculus.specs.Lists.{every, highest};

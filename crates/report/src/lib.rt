@@ -1,4 +1,6 @@
 // The report of a whole check: what it comes to, written as lines of bytes.
+#![tactic(auto)]
+
 ghost use Rattle.report.specs.Examples.{ExamplesStand};
 ghost use Rattle.report.specs.Telling.{LinesTell};
 

@@ -1,4 +1,6 @@
 // Rows: what the linear theory is, as a value, and that it keeps the laws of a theory.
+#![tactic(auto)]
+
 ghost use Rattle.std.specs.Prelude.{◌≡◌};
 ghost use Rattle.calculus.specs.Kinds.{Lawful};
 ghost use Rattle.rows.specs.Rows.{compares, same_relation};

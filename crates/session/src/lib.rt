@@ -1,5 +1,7 @@
 // A session over a theory: the sixteen calls of the calculus. Each call refuses what the calculus does not allow, and
 // changes nothing then.
+#![tactic(auto)]
+
 ghost use Rattle.std.specs.Prelude.{◌≡◌};
 ghost use Rattle.calculus.specs.States.{fresh};
 ghost use Rattle.calculus.specs.Sound.{EveryRunSound};

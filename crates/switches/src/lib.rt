@@ -1,4 +1,6 @@
 // The theory of switches only: it takes no measures, has no atoms, and admits every arrangement.
+#![tactic(auto)]
+
 ghost use Rattle.std.specs.Prelude.{◌≡◌};
 ghost use Rattle.switches.specs.Switches.{unknown, switches_only};
 ghost use Rattle.switches.specs.Lawfulness.{switches_lawful};

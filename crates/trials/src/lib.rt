@@ -1,4 +1,6 @@
 // Trials of the calculus: a small theory with atoms, and runs over it and over switches only, computed.
+#![tactic(auto)]
+
 ghost use Rattle.calculus.specs.Sound.{EveryRunSound};
 ghost use Rattle.switches.specs.Switches.{switches_only};
 ghost use Rattle.trials.specs.Signs.{signs};

@@ -1,5 +1,7 @@
 // What the whole check of a case and its log comes to, and what that means for the case. All of it is definitions, in
 // specs/, and a law.
+#![tactic(auto)]
+
 ghost use Rattle.verdicts.specs.Honest.{Honest};
 
 use calculus::Theory;
