@@ -11,4 +11,4 @@ returns g c =
     let K = g.T.Theory.kind in
     let m = g.T.Theory.model c.args.theory.now in
     let p = λ (x : Stored). not x.rule || meets K m c.args.switches (arrangement K m c.args.switches c.args.denominator (trail_of c.args.trail.now)) x.literals in
-    c.are-rows-met.ensures ∙ sym (every_map p stored_of c.rows.result.now) ∙ ap (every p) c.rows.ensures
+    c.are_rows_met.ensures ∙ sym (every_map p stored_of c.rows.result.now) ∙ ap (every p) c.rows.ensures

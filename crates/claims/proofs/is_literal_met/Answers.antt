@@ -5,12 +5,12 @@ use Rattle.tables.proofs.Narrowing.{abs_number}
 use Rattle.claims.proofs.Meeting.{affirmed_by, by_switch}
 use Rattle.claims.proofs.is_literal_met.Goals as goal
 
-pub returns-then-unsigned-abs-switches : goal.returns-then-unsigned-abs-switches
-returns-then-unsigned-abs-switches g c =
+pub returns-then-unsigned_abs-switches : goal.returns-then-unsigned_abs-switches
+returns-then-unsigned_abs-switches g c =
     let l = c.args.literal in
     let t = trail_of c.args.trail.now in
     let f : SFits w8 l = search rules in
     let own : to_z w8 (of_z w8 l) ≡ l = to_z-of_z f in
-    let n : c.unsigned-abs.result ≡ number l = c.unsigned-abs.ensures.value ∙ ap nat_abs own ∙ abs_number l in
-    let h : number l ≤ c.args.switches = omega (arith, n, c.if-unsigned-abs-switches.true) in
-    c.is-affirmed.ensures ∙ ap (affirmed_by t) own ∙ by_switch g.T.Theory.kind (g.T.Theory.model c.args.theory.now) c.args.switches c.args.denominator t l h
+    let n : c.unsigned_abs.result ≡ number l = c.unsigned_abs.ensures.value ∙ ap nat_abs own ∙ abs_number l in
+    let h : number l ≤ c.args.switches = omega (arith, n, c.if-unsigned_abs-switches.true) in
+    c.is_affirmed.ensures ∙ ap (affirmed_by t) own ∙ by_switch g.T.Theory.kind (g.T.Theory.model c.args.theory.now) c.args.switches c.args.denominator t l h

@@ -9,7 +9,7 @@ use super::Application;
 impl Application {
     // The application with these arguments and then this result in `places`; none where there are not 2 to 4 of them.
     pub fn read(function: u8, places: &[u8]) -> Option<Application>
-        ensures* { λ r. ⌜ MatchOption r (within most_arguments (length places.now - 1) ≡ false) (λ a. (within most_arguments (length places.now - 1) ≡ true) × (application_of a ≡ record { function = function; arguments = take (length places.now - 1) places.now; result = slice_index places.now (length places.now - 1) })) ⌝ }
+        ensures { MatchOption result (within most_arguments (length places.now - 1) ≡ false) (λ a. (within most_arguments (length places.now - 1) ≡ true) × (application_of a ≡ record { function = function; arguments = take (length places.now - 1) places.now; result = slice_index places.now (length places.now - 1) })) }
     {
         match places {
             [a, r] => Some(Application {

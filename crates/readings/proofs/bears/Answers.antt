@@ -9,4 +9,4 @@ use Rattle.readings.proofs.bears.Goals as goal
 pub returns : goal.returns
 returns g c =
     let p = λ (e : Entry). stays_true g.T.Theory.kind (g.T.Theory.model c.args.theory.now) c.args.switches c.args.denominator (trail_of c.args.old.now) (trail_of c.args.new.now) e.content in
-    c.all-stay-true.ensures ∙ sym (every_map p entry_of c.entries.result.now) ∙ ap (every p) c.entries.ensures
+    c.all_stay_true.ensures ∙ sym (every_map p entry_of c.entries.result.now) ∙ ap (every p) c.entries.ensures

@@ -7,8 +7,8 @@ use Rattle.tables.specs.Tables.{trail_of}
 use Rattle.readings.proofs.Asking.{place, measure_at, places_end, measure_within}
 use Rattle.readings.proofs.reading_level.Goals as goal
 
-pub level-of-requires : goal.level-of-requires
-level-of-requires g c =
+pub level_of-requires : goal.level_of-requires
+level_of-requires g c =
     let h : c.loop-i.i < g.T.Theory.kind.measures (g.T.Theory.model c.args.theory.now) = omega (arith, c.loop-i-test.true, c.measures-measures.ensures) in
     measure_within _ c.loop-i.i h
 
@@ -19,8 +19,8 @@ loop-i-preserved g c =
     let t = g.T.Theory.kind.measures m in
     let i = c.loop-i.i in
     let h : i < t = omega (arith, c.loop-i-test.true, c.measures-measures.ensures) in
-    let level : c.level-of.result ≡ at (c.args.number - c.args.switches) (i + 1) = c.level-of.ensures ∙ ap (λ a. at a (i + 1)) c.saturating-sub-atom.ensures in
-    let more = highest_more (at (c.args.number - c.args.switches)) (range_with_len 1 t) i 0 c.level-of.result (place t i h) (level ∙ ap (at (c.args.number - c.args.switches)) (sym (measure_at t i h))) c.loop-i.top in
+    let level : c.level_of.result ≡ at (c.args.number - c.args.switches) (i + 1) = c.level_of.ensures ∙ ap (λ a. at a (i + 1)) c.saturating_sub-atom.ensures in
+    let more = highest_more (at (c.args.number - c.args.switches)) (range_with_len 1 t) i 0 c.level_of.result (place t i h) (level ∙ ap (at (c.args.number - c.args.switches)) (sym (measure_at t i h))) c.loop-i.top in
     ap (λ n. max n (highest (at (c.args.number - c.args.switches)) (drop (i + 1) (range_with_len 1 t)))) c.max-top.ensures ∙ more ∙ c.loop-i.invariant
 
 pub returns : goal.returns

@@ -26,8 +26,8 @@ fn keep(entries: &mut [Entry], level: u8) -> usize
 impl Trail {
     // One entry more.
     pub fn push(&mut self, entry: Entry)
-        requires value { ranged (entry_of entry).content ≡ true }
-        requires self_value { free (entry_of entry).content (trail_of self.old) ≡ true }
+        requires in_range { ranged (entry_of entry).content ≡ true }
+        requires off_trail { free (entry_of entry).content (trail_of self.old) ≡ true }
         ensures { trail_of self.new ≡ trail_of self.old ++ entry_of entry ∷ [] }
     {
         self.entries[self.len] = entry;

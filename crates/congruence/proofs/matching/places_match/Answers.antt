@@ -10,12 +10,12 @@ returns-then-left-right g c = sym (place_uneven (λ i j. eqb i j || some (denies
 pub loop-k-preserved : goal.loop-k-preserved
 loop-k-preserved g c =
     let e : length c.args.left.now ≡ length c.args.right.now = omega arith in
-    sym (place_skip (λ i j. eqb i j || some (denies_equal g.T.Theory.kind (g.T.Theory.model c.args.below.now) c.args.switches i j) c.args.clause.now) c.args.left.now c.args.right.now c.loop-k.k e c.loop-k-test.true (sym c.if-not-place-matches.ensures)) ∙ c.loop-k.invariant
+    sym (place_skip (λ i j. eqb i j || some (denies_equal g.T.Theory.kind (g.T.Theory.model c.args.below.now) c.args.switches i j) c.args.clause.now) c.args.left.now c.args.right.now c.loop-k.k e c.loop-k-test.true (sym c.if-not-place_matches.ensures)) ∙ c.loop-k.invariant
 
-pub returns-then-not-place-matches : goal.returns-then-not-place-matches
-returns-then-not-place-matches g c =
+pub returns-then-not-place_matches : goal.returns-then-not-place_matches
+returns-then-not-place_matches g c =
     let e : length c.args.left.now ≡ length c.args.right.now = omega arith in
-    sym (sym c.loop-k.invariant ∙ place_here (λ i j. eqb i j || some (denies_equal g.T.Theory.kind (g.T.Theory.model c.args.below.now) c.args.switches i j) c.args.clause.now) c.args.left.now c.args.right.now c.loop-k.k e c.loop-k-test.true (sym c.if-not-place-matches.ensures))
+    sym (sym c.loop-k.invariant ∙ place_here (λ i j. eqb i j || some (denies_equal g.T.Theory.kind (g.T.Theory.model c.args.below.now) c.args.switches i j) c.args.clause.now) c.args.left.now c.args.right.now c.loop-k.k e c.loop-k-test.true (sym c.if-not-place_matches.ensures))
 
 pub returns : goal.returns
 returns g c =

@@ -62,24 +62,24 @@ returns-in-Err-concede g c =
     let o = given_back c.args.conflict c.in-Err-concede.conflict c.in-Err-concede.fault (step K v Concede).0 h.0 in
     stayed K g.met.T.Theory.lawful g.T.Theory.model s c.concede.new.self (call_of c.args.order) Concede (ap call_of c.in-Concede.is) h.1 (Analysis c.in-Err-concede.conflict) c.in-Err-concede.fault o c.requires
 
-pub returns-in-Ok-abandon-conflict : goal.returns-in-Ok-abandon-conflict
-returns-in-Ok-abandon-conflict g c =
+pub returns-in-Ok-abandon_conflict : goal.returns-in-Ok-abandon_conflict
+returns-in-Ok-abandon_conflict g c =
     let K = g.T.Theory.kind in
     let s = c.args.session.now in
     let v = view K g.T.Theory.model s in
-    let h = c.in-Ok-abandon-conflict.ensures in
+    let h = c.in-Ok-abandon_conflict.ensures in
     let r = spent c.args.conflict (step K v Abandon).0 h.0 in
-    landed K g.met.T.Theory.lawful g.T.Theory.model s c.abandon-conflict.new.self (call_of c.args.order) Abandon (ap call_of c.in-Abandon.is) h.1 Nothing r.0 r.1 (abandon_leads K v r.0 r.1)
+    landed K g.met.T.Theory.lawful g.T.Theory.model s c.abandon_conflict.new.self (call_of c.args.order) Abandon (ap call_of c.in-Abandon.is) h.1 Nothing r.0 r.1 (abandon_leads K v r.0 r.1)
 
-pub returns-in-Err-abandon-conflict : goal.returns-in-Err-abandon-conflict
-returns-in-Err-abandon-conflict g c =
+pub returns-in-Err-abandon_conflict : goal.returns-in-Err-abandon_conflict
+returns-in-Err-abandon_conflict g c =
     let K = g.T.Theory.kind in
     let s = c.args.session.now in
     let v = view K g.T.Theory.model s in
-    let h = c.in-Err-abandon-conflict.ensures in
-    let o = given_back c.args.conflict c.in-Err-abandon-conflict.conflict c.in-Err-abandon-conflict.fault (step K v Abandon).0 h.0 in
-    stayed K g.met.T.Theory.lawful g.T.Theory.model s c.abandon-conflict.new.self (call_of c.args.order) Abandon (ap call_of c.in-Abandon.is) h.1 (Analysis c.in-Err-abandon-conflict.conflict) c.in-Err-abandon-conflict.fault o c.requires
+    let h = c.in-Err-abandon_conflict.ensures in
+    let o = given_back c.args.conflict c.in-Err-abandon_conflict.conflict c.in-Err-abandon_conflict.fault (step K v Abandon).0 h.0 in
+    stayed K g.met.T.Theory.lawful g.T.Theory.model s c.abandon_conflict.new.self (call_of c.args.order) Abandon (ap call_of c.in-Abandon.is) h.1 (Analysis c.in-Err-abandon_conflict.conflict) c.in-Err-abandon_conflict.fault o c.requires
 
-pub returns-in-default : goal.returns-in-default
-returns-in-default g c =
+pub returns-in_default : goal.returns-in_default
+returns-in_default g c =
     held_still g.T.Theory.kind g.T.Theory.model c.args.session.now c.plain.new.session (call_of c.args.order) (Analysis c.args.conflict) c.plain.result c.plain.ensures.obeys c.plain.ensures.phase c.requires

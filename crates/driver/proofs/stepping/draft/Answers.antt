@@ -44,6 +44,6 @@ returns-in-Err g c =
     let o = given_back c.args.permit c.in-Err.permit c.in-Err.fault (step K v d).0 h.0 in
     stayed K g.met.T.Theory.lawful g.T.Theory.model s c.seal.new.self (call_of c.args.order) d (ap call_of c.in-Seal.is) h.1 (Draft c.in-Err.permit) c.in-Err.fault o c.requires
 
-pub returns-in-default : goal.returns-in-default
-returns-in-default g c =
+pub returns-in_default : goal.returns-in_default
+returns-in_default g c =
     held_still g.T.Theory.kind g.T.Theory.model c.args.session.now c.plain.new.session (call_of c.args.order) (Draft c.args.permit) c.plain.result c.plain.ensures.obeys c.plain.ensures.phase c.requires

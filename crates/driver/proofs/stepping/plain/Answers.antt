@@ -37,7 +37,7 @@ returns-in-Read g c =
     let p = plainly g.T.Theory.kind g.T.Theory.model c.args.session.now c.read.new.self (call_of c.args.order) (Read c.in-Read.number) c.read.result (ap call_of c.in-Read.is) c.requires c.read.ensures in
     record { obeys = p.0; phase = p.1 }
 
-pub returns-in-default : goal.returns-in-default
-returns-in-default g c =
-    let y = rest_token c.args.order c.in-default.not-Admit c.in-default.not-Lemma c.in-default.not-Choose c.in-default.not-Set c.in-default.not-Propagate c.in-default.not-Read in
+pub returns-in_default : goal.returns-in_default
+returns-in_default g c =
+    let y = rest_token c.args.order c.in_default.not-Admit c.in_default.not-Lemma c.in_default.not-Choose c.in_default.not-Set c.in_default.not-Propagate c.in_default.not-Read in
     record { obeys = refused g.T.Theory.kind g.T.Theory.model c.args.session.now (call_of c.args.order) y c.requires; phase = refl }

@@ -69,6 +69,6 @@ returns-in-Err-abandon g c =
     let h = c.in-Err-abandon.ensures in
     stayed K g.met.T.Theory.lawful g.T.Theory.model s c.abandon.new.self (call_of c.args.order) Abandon (ap call_of c.in-Abandon.is) h.1 Nothing c.in-Err-abandon.fault (sym h.0) c.requires
 
-pub returns-in-default : goal.returns-in-default
-returns-in-default g c =
+pub returns-in_default : goal.returns-in_default
+returns-in_default g c =
     held_still g.T.Theory.kind g.T.Theory.model c.args.session.now c.plain.new.session (call_of c.args.order) Nothing c.plain.result c.plain.ensures.obeys c.plain.ensures.phase c.requires

@@ -17,7 +17,7 @@ returns-in-Err c =
     let h = c.in-Err.ensures in
     let kind : FileKind = c.args.kind in
     let file : List ℕ = c.args.file.now in
-    let bytes : Bytes file = λ i. let f = c.type-inv.file i in omega arith in
+    let bytes : Bytes file = λ i. let f = c.type_inv.file i in omega arith in
     let o : inl c.in-Err.fault ≡ in_file (opened kind file) =
     h.answer
     ∙ ap (λ (k : FileKind). in_file (opened k c.over-reader.result.file.now)) c.over-reader.ensures.kind
@@ -32,7 +32,7 @@ returns-in-Err c =
 
 pub loop-record-init : goal.loop-record-init
 loop-record-init c =
-    let h = c.in-default.ensures in
+    let h = c.in_default.ensures in
     let file : List ℕ = c.args.file.now in
     let kind : FileKind = c.open.new.self.kind in
     let o : inr tt ≡ in_file (opened kind file) =
@@ -58,7 +58,7 @@ loop-record-preserved c =
     let b : entry_at n p file ≡ inr (Some (entry_view r)) = ap (entry_at n p) (sym inv.0) ∙ a in
     let es = map entry_view (vec_items c.loop-record.records) in
     let pushed : map entry_view (vec_items c.push.new.self) ≡ es ++ entry_view r ∷ [] =
-    ap (map entry_view) c.in-ok-push.ensures.items ∙ map_push entry_view (vec_items c.loop-record.records) r in
+    ap (map entry_view) c.in_ok-push-in-Ok-Some.ensures.items ∙ map_push entry_view (vec_items c.loop-record.records) r in
     let place_is : c.next.new.self.place ≡ place_after p (inr (Some (entry_view r))) = h.place ∙ ap (place_after p) a in
     let count_is : c.next.new.self.count ≡ n + 1 = h.count ∙ ap (count_after n) a in (
       h.file ∙ inv.0,
@@ -73,13 +73,13 @@ returns-in-Ok-None c =
     let h = c.in-Ok-None.ensures in
     let inv = c.loop-record.invariant in
     let file : List ℕ = c.args.file.now in
-    let bytes : Bytes file = λ i. let f = c.type-inv.file i in omega arith in
+    let bytes : Bytes file = λ i. let f = c.type_inv.file i in omega arith in
     let p : ℕ = c.loop-record.reader.place in
     let n : ℕ = c.loop-record.reader.count in
     let es : List Entry = map entry_view (vec_items c.loop-record.records) in
     let told : inr None ≡ in_file (entry_at n p c.loop-record.reader.file.now) = search rules in
     let b : entry_at n p file ≡ inr None = ap (entry_at n p) (sym inv.0) ∙ from_inr _ None told in
-    let kind_is : c.open.new.self.kind ≡ c.args.kind = c.in-default.ensures.kind ∙ c.over-reader.ensures.kind in
+    let kind_is : c.open.new.self.kind ≡ c.args.kind = c.in_default.ensures.kind ∙ c.over-reader.ensures.kind in
     let e : onto es Ended ≡ read_file c.args.kind file =
     ends c.open.new.self.kind file es p n b inv.1 ∙ ap (λ (k : FileKind). read_file k file) kind_is in
     let laws = carried c.args.kind file _ bytes e in
@@ -90,7 +90,7 @@ returns-in-Err-next c =
     let h = c.in-Err-next.ensures in
     let inv = c.loop-record.invariant in
     let file : List ℕ = c.args.file.now in
-    let bytes : Bytes file = λ i. let f = c.type-inv.file i in omega arith in
+    let bytes : Bytes file = λ i. let f = c.type_inv.file i in omega arith in
     let p : ℕ = c.loop-record.reader.place in
     let n : ℕ = c.loop-record.reader.count in
     let es : List Entry = map entry_view (vec_items c.loop-record.records) in
@@ -98,7 +98,7 @@ returns-in-Err-next c =
     let place_is : c.next.new.self.place ≡ p = h.place ∙ ap (place_after p) q.1 in
     let count_is : c.next.new.self.count ≡ n = h.count ∙ ap (count_after n) q.1 in
     let b : entry_at n p file ≡ inl q.0 = ap (entry_at n p) (sym inv.0) ∙ q.1 in
-    let kind_is : c.open.new.self.kind ≡ c.args.kind = c.in-default.ensures.kind ∙ c.over-reader.ensures.kind in
+    let kind_is : c.open.new.self.kind ≡ c.args.kind = c.in_default.ensures.kind ∙ c.over-reader.ensures.kind in
     let e : onto es (ending (Some c.stop.result)) ≡ read_file c.args.kind file =
     ap (λ (x : Stop). onto es (ending (Some x))) c.stop.ensures
     ∙ ap (λ (m : ℕ). onto es (Stopped (m + 1) c.next.new.self.place c.in-Err-next.fault)) count_is

@@ -8,8 +8,8 @@ use Rattle.linear.proofs.Listed.{no_entry, small_at}
 use Rattle.linear.proofs.entries.coefficient.Goals as goal
 use Rattle.linear.proofs.entries.coefficient.Goals.{then-e-measure, else-e-measure}
 
-pub overflow-add-sum : goal.overflow-add-sum
-overflow-add-sum c =
+pub overflow_add-sum : goal.overflow_add-sum
+overflow_add-sum c =
     let s = small_at c.args.entries.now c.loop-e.e-index c.requires.small c.loop-e-test.true in
     omega (arith, ints)
 

@@ -3,8 +3,8 @@ use Rattle.std.proofs.lemmas.Int.{ints}
 use Rattle.linear.proofs.Sums.{product_small, product_fits, product_back}
 use Rattle.linear.proofs.entries.product.Goals as goal
 
-pub overflow-mul-result : goal.overflow-mul-result
-overflow-mul-result c =
+pub overflow_mul-result : goal.overflow_mul-result
+overflow_mul-result c =
     let p : to_z w64 (of_z w64 c.from.result) ≡ c.args.a = omega (arith, ints) in
     let q : to_z w64 (of_z w64 c.from-2.result) ≡ c.args.b = omega (arith, ints) in
     product_fits _ _ c.args.a c.args.b p q c.requires.left c.requires.right

@@ -8,8 +8,8 @@ use Rattle.linear.proofs.Sums.{every_at}
 use Rattle.linear.proofs.Listed.{no_entry, still, length_over}
 use Rattle.linear.proofs.entries.turned.Goals as goal
 
-pub turned-entry-requires : goal.turned-entry-requires
-turned-entry-requires c =
+pub turned_entry-requires : goal.turned_entry-requires
+turned_entry-requires c =
     let n : length c.args.entries ≡ 16 = search rules in
     let h : c.loop-i.i < length c.args.entries = omega arith in
     ap (λ e. sized 100000000 e.coefficient) (still turned_entry c.args.entries c.loop-i.r c.loop-i.i no_entry h c.loop-i.invariant) ∙ every_at (λ e. sized most_size e.coefficient) c.args.entries c.loop-i.i no_entry c.requires h

@@ -14,8 +14,8 @@ product-sum-requires c =
     let n = nth_sized 1000000000 c.args.numerators.now x.measure c.requires.sized in
     record { left = omega (arith, ints); right = omega (arith, ints) }
 
-pub overflow-add-sum : goal.overflow-add-sum
-overflow-add-sum c = omega (arith, ints)
+pub overflow_add-sum : goal.overflow_add-sum
+overflow_add-sum c = omega (arith, ints)
 
 pub loop-e-preserved : goal.loop-e-preserved
 loop-e-preserved c =

@@ -6,8 +6,8 @@ use Rattle.report.proofs.lines.write_measure.Goals as goal
 
 pub returns : goal.returns
 returns c =
-    let numerator = same (ap signed_decimal (to_z-of_z _ _ c.ranges.numerator)) refl refl c.write-signed-at.ensures.wrote in
+    let numerator = same (ap signed_decimal (to_z-of_z _ _ c.ranges.numerator)) refl refl c.write_signed-at.ensures.wrote in
     record {
-      wrote = then (then (then (then c.write-bytes-at.ensures c.write-small-at.ensures.wrote) c.write-bytes-at-2.ensures) numerator) c.write-bytes-at-3.ensures;
-      bound = omega (arith, c.write-bytes-at.ensures.count, c.write-bytes-at-2.ensures.count, c.write-bytes-at-3.ensures.count);
+      wrote = then (then (then (then c.write_bytes-at.ensures c.write_small-at.ensures.wrote) c.write_bytes-at-2.ensures) numerator) c.write_bytes-at-3.ensures;
+      bound = omega (arith, c.write_bytes-at.ensures.count, c.write_bytes-at-2.ensures.count, c.write_bytes-at-3.ensures.count);
     }

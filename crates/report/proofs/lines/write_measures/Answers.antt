@@ -10,9 +10,9 @@ pub loop-i-preserved : goal.loop-i-preserved
 loop-i-preserved c =
     let z : ℤ = get_or c.args.numerators.now c.loop-i.i (pos 0) in
     let fits : SFits w32 z = search rules in
-    let line = same (ap (measure_line (c.loop-i.i + 1)) (to_z-of_z w32 z fits)) refl refl c.write-measure-at.ensures.wrote in (
+    let line = same (ap (measure_line (c.loop-i.i + 1)) (to_z-of_z w32 z fits)) refl refl c.write_measure-at.ensures.wrote in (
       same (measure_next c.args.numerators.now c.loop-i.i (pos 0) c.loop-i-test.true) refl refl (then c.loop-i.invariant.0 line),
-      omega (arith, c.loop-i.invariant.1, c.write-measure-at.ensures.bound),
+      omega (arith, c.loop-i.invariant.1, c.write_measure-at.ensures.bound),
     )
 
 pub returns : goal.returns

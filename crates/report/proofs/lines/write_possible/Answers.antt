@@ -5,6 +5,6 @@ use Rattle.report.proofs.lines.write_possible.Goals as goal
 pub returns : goal.returns
 returns c =
     record {
-      wrote = then (then c.write-bytes-at.ensures c.write-number-at.ensures.wrote) c.write-bytes-at-2.ensures;
-      bound = omega (arith, c.write-bytes-at.ensures.count, c.write-bytes-at-2.ensures.count);
+      wrote = then (then c.write_bytes-at.ensures c.write_number-at.ensures.wrote) c.write_bytes-at-2.ensures;
+      bound = omega (arith, c.write_bytes-at.ensures.count, c.write_bytes-at-2.ensures.count);
     }

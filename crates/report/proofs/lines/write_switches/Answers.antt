@@ -7,8 +7,8 @@ use Rattle.report.proofs.lines.write_switches.Goals as goal
 
 pub loop-i-preserved : goal.loop-i-preserved
 loop-i-preserved c = (
-  same (switch_next c.args.switches.now c.loop-i.i _ c.loop-i-test.true) refl refl (then c.loop-i.invariant.0 c.write-switch-at.ensures.wrote),
-  omega (arith, c.loop-i.invariant.1, c.write-switch-at.ensures.bound),
+  same (switch_next c.args.switches.now c.loop-i.i _ c.loop-i-test.true) refl refl (then c.loop-i.invariant.0 c.write_switch-at.ensures.wrote),
+  omega (arith, c.loop-i.invariant.1, c.write_switch-at.ensures.bound),
 )
 
 pub returns : goal.returns

@@ -19,16 +19,16 @@ returns-then-n-lt10 t c =
     rw (decimal_digit c.args.n (omega arith))
     (one_more [] c.args.rest.now c.args.rest.now 0 (48 + c.args.n) (nothing c.args.rest.now) (omega (arith, single c.args.n (omega arith))))
 
-pub write-digits-at-requires : goal.write-digits-at-requires
-write-digits-at-requires t c = omega (arith, shorter c.args.n (omega arith) (omega arith))
+pub write_digits-at-requires : goal.write_digits-at-requires
+write_digits-at-requires t c = omega (arith, shorter c.args.n (omega arith) (omega arith))
 
 pub bounds-rest-at : goal.bounds-rest-at
-bounds-rest-at t c = omega (arith, c.write-digits-at.ensures.count, shorter c.args.n (omega arith) (omega arith))
+bounds-rest-at t c = omega (arith, c.write_digits-at.ensures.count, shorter c.args.n (omega arith) (omega arith))
 
-pub overflow-add-result : goal.overflow-add-result
-overflow-add-result t c = omega (arith, c.write-digits-at.ensures.count, shorter c.args.n (omega arith) (omega arith))
+pub overflow_add-result : goal.overflow_add-result
+overflow_add-result t c = omega (arith, c.write_digits-at.ensures.count, shorter c.args.n (omega arith) (omega arith))
 
 pub returns : goal.returns
 returns t c =
     rw (decimal_step c.args.n (omega arith) (omega arith))
-    (one_more (decimal (c.args.n / 10)) c.args.rest.now c.write-digits-at.new.rest c.write-digits-at.result (48 + c.args.n % 10) c.write-digits-at.ensures (omega (arith, c.write-digits-at.ensures.count, shorter c.args.n (omega arith) (omega arith))))
+    (one_more (decimal (c.args.n / 10)) c.args.rest.now c.write_digits-at.new.rest c.write_digits-at.result (48 + c.args.n % 10) c.write_digits-at.ensures (omega (arith, c.write_digits-at.ensures.count, shorter c.args.n (omega arith) (omega arith))))

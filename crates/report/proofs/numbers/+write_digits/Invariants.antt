@@ -1,4 +1,4 @@
 use Rattle.report.proofs.numbers.+write_digits.Given as goal
 
-abbrev pub decreases-write-digits : goal.decreases-write-digits
-decreases-write-digits l = l.n
+abbrev pub decreases-write_digits : goal.decreases-write_digits
+decreases-write_digits l = l.n

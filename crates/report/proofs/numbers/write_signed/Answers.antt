@@ -14,8 +14,8 @@ plain (negsuc n) h = absurd (let k : ⊥ = grind (arith, ints) in k)
 
 pub returns-then-z-lt0 : goal.returns-then-z-lt0
 returns-then-z-lt0 c =
-    let e : c.unsigned-abs-size.result ≡ nat_abs c.args.z = c.unsigned-abs-size.ensures.value ∙ ap nat_abs (to_z-of_z _ _ c.ranges.z) in
+    let e : c.unsigned_abs-size.result ≡ nat_abs c.args.z = c.unsigned_abs-size.ensures.value ∙ ap nat_abs (to_z-of_z _ _ c.ranges.z) in
     record {
-      wrote = rw (minus c.args.z (omega (arith, ints)), ← e) (then (one_more [] c.args.rest.now c.args.rest.now 0 45 (nothing c.args.rest.now) (omega arith)) c.write-number.ensures.wrote);
+      wrote = rw (minus c.args.z (omega (arith, ints)), ← e) (then (one_more [] c.args.rest.now c.args.rest.now 0 45 (nothing c.args.rest.now) (omega arith)) c.write_number.ensures.wrote);
       bound = omega arith;
     }

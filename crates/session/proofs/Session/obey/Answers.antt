@@ -36,7 +36,7 @@ pub returns-in-Resolve : goal.returns-in-Resolve
 returns-in-Resolve g c =
     let K = g.T.Theory.kind in
     let v = view K g.T.Theory.model c.args.self.now in
-    c.resolve-once.ensures ∙ ap (λ o. (step K v (call_of o)).1) (sym c.in-Resolve.is)
+    c.resolve_once.ensures ∙ ap (λ o. (step K v (call_of o)).1) (sym c.in-Resolve.is)
 
 pub returns-in-Jump : goal.returns-in-Jump
 returns-in-Jump g c =

@@ -9,4 +9,4 @@ none [] d e p q = and_from (ltb 0 d) (leb d 1000000) (lt-ltb 0 d p) (le-leb d 10
 none (x ∷ xs) d e p q = absurd (omega arith)
 
 pub returns-then-denominator-le1000000 : goal.returns-then-denominator-le1000000
-returns-then-denominator-le1000000 c = sym (cond-true (in_limits 0 c.args.numerators.now c.args.denominator) Yes (No 1) (none c.args.numerators.now c.args.denominator (eqb-true (length c.args.numerators.now) 0 (sym c.if-is-empty.ensures)) (omega arith) (omega arith)))
+returns-then-denominator-le1000000 c = sym (cond-true (in_limits 0 c.args.numerators.now c.args.denominator) Yes (No 1) (none c.args.numerators.now c.args.denominator (eqb-true (length c.args.numerators.now) 0 (sym c.if-is_empty.ensures)) (omega arith) (omega arith)))

@@ -4,19 +4,19 @@ use Rattle.calculus.proofs.Looping.{every_stop, every_more, every_end}
 use Rattle.tables.proofs.Weighing.{of_bits}
 use Rattle.tables.proofs.literals.are_proper.Goals as goal
 
-pub returns-then-not-is-proper : goal.returns-then-not-is-proper
-returns-then-not-is-proper c =
+pub returns-then-not-is_proper : goal.returns-then-not-is_proper
+returns-then-not-is_proper c =
     let p : ℤ → Bool = proper in
     let z : ℤ = get_or c.args.literals.now c.loop-k.k-index (pos 0) in
     let f : SFits w8 z = search rules in
-    sym (every_stop p c.args.literals.now c.loop-k.k-index (pos 0) c.loop-k-test.true (of_bits p z _ f c.if-not-is-proper.ensures) c.loop-k.invariant)
+    sym (every_stop p c.args.literals.now c.loop-k.k-index (pos 0) c.loop-k-test.true (of_bits p z _ f c.if-not-is_proper.ensures) c.loop-k.invariant)
 
 pub loop-k-preserved : goal.loop-k-preserved
 loop-k-preserved c =
     let p : ℤ → Bool = proper in
     let z : ℤ = get_or c.args.literals.now c.loop-k.k-index (pos 0) in
     let f : SFits w8 z = search rules in
-    every_more p c.args.literals.now c.loop-k.k-index (pos 0) c.loop-k-test.true (of_bits p z _ f c.if-not-is-proper.ensures) c.loop-k.invariant
+    every_more p c.args.literals.now c.loop-k.k-index (pos 0) c.loop-k-test.true (of_bits p z _ f c.if-not-is_proper.ensures) c.loop-k.invariant
 
 pub returns : goal.returns
 returns c = sym (every_end proper c.args.literals.now c.loop-k.k-index c.loop-k-test.false c.loop-k.invariant)

@@ -9,12 +9,12 @@ returns-then-left-right c = sym (place_uneven (equal_at c.args.numerators.now) c
 pub loop-k-preserved : goal.loop-k-preserved
 loop-k-preserved c =
     let e : length c.args.left.now ≡ length c.args.right.now = omega arith in
-    sym (place_skip (equal_at c.args.numerators.now) c.args.left.now c.args.right.now c.loop-k.k e c.loop-k-test.true (sym c.if-not-is-equal.ensures)) ∙ c.loop-k.invariant
+    sym (place_skip (equal_at c.args.numerators.now) c.args.left.now c.args.right.now c.loop-k.k e c.loop-k-test.true (sym c.if-not-is_equal.ensures)) ∙ c.loop-k.invariant
 
-pub returns-then-not-is-equal : goal.returns-then-not-is-equal
-returns-then-not-is-equal c =
+pub returns-then-not-is_equal : goal.returns-then-not-is_equal
+returns-then-not-is_equal c =
     let e : length c.args.left.now ≡ length c.args.right.now = omega arith in
-    sym (sym c.loop-k.invariant ∙ place_here (equal_at c.args.numerators.now) c.args.left.now c.args.right.now c.loop-k.k e c.loop-k-test.true (sym c.if-not-is-equal.ensures))
+    sym (sym c.loop-k.invariant ∙ place_here (equal_at c.args.numerators.now) c.args.left.now c.args.right.now c.loop-k.k e c.loop-k-test.true (sym c.if-not-is_equal.ensures))
 
 pub returns : goal.returns
 returns c =

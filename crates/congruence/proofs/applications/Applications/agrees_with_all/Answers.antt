@@ -8,12 +8,12 @@ use Rattle.congruence.proofs.applications.Applications.agrees_with_all.Goals as 
 pub loop-k-preserved : goal.loop-k-preserved
 loop-k-preserved c =
     let t = c.args.self.now in
-    rows_more t (agree c.args.numerators.now (application_of c.args.p.now)) c.loop-k.k c.index-self-k.result c.loop-k-test.true (sym c.if-not-do-agree.ensures) c.loop-k.invariant
+    rows_more t (agree c.args.numerators.now (application_of c.args.p.now)) c.loop-k.k c.index-self-k.result c.loop-k-test.true (sym c.if-not-do_agree.ensures) c.loop-k.invariant
 
-pub returns-then-not-do-agree : goal.returns-then-not-do-agree
-returns-then-not-do-agree c =
+pub returns-then-not-do_agree : goal.returns-then-not-do_agree
+returns-then-not-do_agree c =
     let t = c.args.self.now in
-    sym (rows_stop t (agree c.args.numerators.now (application_of c.args.p.now)) c.loop-k.k c.index-self-k.result c.loop-k-test.true (sym c.if-not-do-agree.ensures) c.loop-k.invariant)
+    sym (rows_stop t (agree c.args.numerators.now (application_of c.args.p.now)) c.loop-k.k c.index-self-k.result c.loop-k-test.true (sym c.if-not-do_agree.ensures) c.loop-k.invariant)
 
 pub returns : goal.returns
 returns c =

@@ -8,12 +8,12 @@ use Rattle.congruence.proofs.applications.Applications.are_consistent.Goals as g
 pub loop-k-preserved : goal.loop-k-preserved
 loop-k-preserved c =
     let t = c.args.self.now in
-    rows_more t (λ p. every (agree c.args.numerators.now p) (applications_of t)) c.loop-k.k c.index-self-k.result c.loop-k-test.true (sym c.if-not-agrees-with-all.ensures) c.loop-k.invariant
+    rows_more t (λ p. every (agree c.args.numerators.now p) (applications_of t)) c.loop-k.k c.index-self-k.result c.loop-k-test.true (sym c.if-not-agrees_with_all.ensures) c.loop-k.invariant
 
-pub returns-then-not-agrees-with-all : goal.returns-then-not-agrees-with-all
-returns-then-not-agrees-with-all c =
+pub returns-then-not-agrees_with_all : goal.returns-then-not-agrees_with_all
+returns-then-not-agrees_with_all c =
     let t = c.args.self.now in
-    sym (rows_stop t (λ p. every (agree c.args.numerators.now p) (applications_of t)) c.loop-k.k c.index-self-k.result c.loop-k-test.true (sym c.if-not-agrees-with-all.ensures) c.loop-k.invariant)
+    sym (rows_stop t (λ p. every (agree c.args.numerators.now p) (applications_of t)) c.loop-k.k c.index-self-k.result c.loop-k-test.true (sym c.if-not-agrees_with_all.ensures) c.loop-k.invariant)
 
 pub returns : goal.returns
 returns c =

@@ -16,7 +16,7 @@ returns-in-Some g c =
     let h = c.in-Some.ensures in
     let room : length (applications_of c.args.self.now.applications) < most_applications = omega arith in
     let places = c.behind-places.result.now in
-    let measured = ap (λ n. every (within n) places) (sym c.measures.ensures) ∙ sym c.if-not-are-measures.ensures in
+    let measured = ap (λ n. every (within n) places) (sym c.measures.ensures) ∙ sym c.if-not-are_measures.ensures in
     let t = taken_so K m (application_of c.in-Some.a) c.args.rest.now places (c.behind-places.ensures ∙ ap (drop 1) c.behind.ensures ∙ drop_twice c.args.rest.now) room (omega arith) (omega arith) measured h.0 h.1 in (
       sym (ap (answered (congruence K)) t),
       ap (λ apps. record { below = m.below; applications = apps }) (c.push.ensures.after ∙ cond-true _ _ _ (lt-ltb _ _ room)) ∙ sym (ap (left (congruence K) m) t),

@@ -3,4 +3,4 @@ use Rattle.files.proofs.Copies.{signed_length}
 use Rattle.files.proofs.calls.Literals.is_empty.Goals as goal
 
 pub returns : goal.returns
-returns c = c.is-empty.ensures ∙ ap (λ (n : ℕ). eqb n 0) (sym (signed_length c.args.self.now.bytes.now))
+returns c = c.is_empty.ensures ∙ ap (λ (n : ℕ). eqb n 0) (sym (signed_length c.args.self.now.bytes.now))

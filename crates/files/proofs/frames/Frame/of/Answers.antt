@@ -5,4 +5,4 @@ use Rattle.files.proofs.frames.Frame.of.Goals as goal
 
 pub returns : goal.returns
 returns c =
-    ap in_file (framed_is c.args.input.now c.unsigned-word-n.result c.split-at.result.0.now c.split-at.result.1.now (search rules) c.unsigned-word-n.ensures (search rules) (search rules) c.split-at.ensures.front c.split-at.ensures.back)
+    ap in_file (framed_is c.args.input.now c.unsigned_word-n.result c.split_at.result.0.now c.split_at.result.1.now (search rules) c.unsigned_word-n.ensures (search rules) (search rules) c.split_at.ensures.front c.split_at.ensures.back)

@@ -7,8 +7,8 @@ use Rattle.linear.proofs.Sums.{total_more}
 use Rattle.linear.proofs.Hinted.{no_part, hinted_length, long_sum_step, long_sum_fits}
 use Rattle.linear.proofs.store.Linear.column.Goals as goal
 
-pub overflow-add-sum : goal.overflow-add-sum
-overflow-add-sum c =
+pub overflow_add-sum : goal.overflow_add-sum
+overflow_add-sum c =
     let h : c.loop-i.i < 2 ^ 64 = search rules in
     let e : c.from-sum.result ≡ c.coefficient.result = omega (arith, ints) in
     long_sum_fits _ c.coefficient.result c.from-sum.result c.loop-i.i h c.loop-i.invariant.1 e c.coefficient.ensures.small

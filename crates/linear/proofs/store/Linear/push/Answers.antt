@@ -4,10 +4,15 @@ use Rattle.linear.specs.Views.{bounded}
 use Rattle.linear.proofs.Tabled.{rows_push, every_set}
 use Rattle.linear.proofs.store.Linear.push.Goals as goal
 
-pub invariant-of-self : goal.invariant-of-self
-invariant-of-self c =
+pub invariant_of-self : goal.invariant_of-self
+invariant_of-self c =
     let t = c.args.self.now in
-    (t.few, (omega arith, (length-set t.atoms t.count c.args.atom ∙ t.whole, (every_set bounded t.atoms t.count c.args.atom t.bounds c.requires.bounded, tt))))
+    record {
+      few = t.few;
+      room = omega arith;
+      whole = length-set t.atoms t.count c.args.atom ∙ t.whole;
+      bounds = every_set bounded t.atoms t.count c.args.atom t.bounds c.requires.bounded;
+    }
 
 pub returns : goal.returns
 returns c =

@@ -8,5 +8,5 @@ pub push-requires : goal.push-requires
 push-requires c =
     let t = c.args.self.now in
     let n = rows_length t.atoms t.count (omega arith) in
-    let h = ltb-true (length (table t).rows) 127 (sym c.if-not-has-room.ensures) in
+    let h = ltb-true (length (table t).rows) 127 (sym c.if-not-has_room.ensures) in
     record { room = omega arith; bounded = search rules }

@@ -5,7 +5,7 @@ use Rattle.tables.specs.Tables.{draft_of}
 use Rattle.tables.proofs.Weighing.{of_bits}
 use Rattle.tables.proofs.Resolving.{kept_yes, kept_no, kept_count}
 use Rattle.tables.proofs.clause.resolving.keep_others.Goals as goal
-use Rattle.tables.proofs.clause.resolving.keep_others.Goals.{then-is-other, else-is-other}
+use Rattle.tables.proofs.clause.resolving.keep_others.Goals.{then-is_other, else-is_other}
 
 pub push-requires : goal.push-requires
 push-requires c = omega (arith, kept_count (λ k. not (same k (to_z w8 (of_z w8 c.args.literal)))) (draft_of c.args.draft.now) c.args.clause.now c.loop-k.k-index (draft_of c.loop-k.draft) c.loop-k.invariant, c.loop-k-test.true, c.requires)
@@ -18,9 +18,9 @@ loop-k-preserved c =
     let z : ℤ = get_or ks i (pos 0) in
     let f : SFits w8 z = search rules in
     let p : ℤ → Bool = (λ k. not (same k (to_z w8 (of_z w8 c.args.literal)))) in
-    elim c.if-is-other.branch [
-      | then-is-other w ↦ ap draft_of w.draft-is ∙ w.push.ensures ∙ ap (λ d. d ++ to_z w8 (of_z w8 z) ∷ []) c.loop-k.invariant ∙ ap (λ y. (old ++ filter p (take i ks)) ++ y ∷ []) (to_z-of_z f) ∙ kept_yes p old ks i (pos 0) c.loop-k-test.true (of_bits p z _ f c.is-other.ensures ∙ w.if-is-other.true)
-      | else-is-other w ↦ ap draft_of w.draft-is ∙ c.loop-k.invariant ∙ kept_no p old ks i (pos 0) c.loop-k-test.true (of_bits p z _ f c.is-other.ensures ∙ w.if-is-other.false)
+    elim c.if-is_other.branch [
+      | then-is_other w ↦ ap draft_of w.draft-is ∙ w.push.ensures ∙ ap (λ d. d ++ to_z w8 (of_z w8 z) ∷ []) c.loop-k.invariant ∙ ap (λ y. (old ++ filter p (take i ks)) ++ y ∷ []) (to_z-of_z f) ∙ kept_yes p old ks i (pos 0) c.loop-k-test.true (of_bits p z _ f c.is_other.ensures ∙ w.if-is_other.true)
+      | else-is_other w ↦ ap draft_of w.draft-is ∙ c.loop-k.invariant ∙ kept_no p old ks i (pos 0) c.loop-k-test.true (of_bits p z _ f c.is_other.ensures ∙ w.if-is_other.false)
     ]
 
 pub returns : goal.returns

@@ -9,13 +9,13 @@ pub returns-then-i-self : goal.returns-then-i-self
 returns-then-i-self c =
     let s = c.args.self.now in
     let none : Stored = record { literals = []; rule = false } in
-    let past : length (store_of s) ≤ c.args.number - 1 = omega (arith, count_stored s, c.saturating-sub-i.ensures, c.if-i-self.true) in
+    let past : length (store_of s) ≤ c.args.number - 1 = omega (arith, count_stored s, c.saturating_sub-i.ensures, c.if-i-self.true) in
     record { same = ap (λ (r : Stored). r.literals) (sym (get_or-eq_default (store_of s) none past)); few = omega arith }
 
 pub returns : goal.returns
 returns c =
     let s = c.args.self.now in
-    let i = c.saturating-sub-i.result in
+    let i = c.saturating_sub-i.result in
     let none : Stored = record { literals = []; rule = false } in
-    let there : get_or (store_of s) (c.args.number - 1) none ≡ _ = ap (λ j. get_or (store_of s) j none) (sym c.saturating-sub-i.ensures) ∙ stored_at s i c.index-self-i.result none c.if-i-self.false in
+    let there : get_or (store_of s) (c.args.number - 1) none ≡ _ = ap (λ j. get_or (store_of s) j none) (sym c.saturating_sub-i.ensures) ∙ stored_at s i c.index-self-i.result none c.if-i-self.false in
     record { same = c.literals.ensures.same ∙ ap (λ (r : Stored). r.literals) (sym there); few = c.literals.ensures.few }

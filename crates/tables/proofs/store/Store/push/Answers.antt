@@ -13,12 +13,12 @@ listed c = let s = c.args.self.now in omega (arith, count_stored s, ltb-true (le
 pub bounds-self-self : goal.bounds-self-self
 bounds-self-self c = let s = c.args.self.now in omega (arith, count_stored s, ltb-true (length (store_of s)) most_clauses c.requires)
 
-pub invariant-of-self : goal.invariant-of-self
-invariant-of-self c =
+pub invariant_of-self : goal.invariant_of-self
+invariant_of-self c =
     let s = c.args.self.now in
     let k = count_stored s in
     let room = ltb-true (length (store_of s)) most_clauses c.requires in
-    (length-set _ _ _ ∙ s.whole, (omega arith, tt))
+    record { whole = length-set _ _ _ ∙ s.whole; fits = omega arith }
 
 pub returns : goal.returns
 returns c =

@@ -5,19 +5,19 @@ use Rattle.tables.specs.Tables.{trail_of}
 use Rattle.tables.proofs.Weighing.{of_bits}
 use Rattle.tables.proofs.trail.Trail.all_false.Goals as goal
 
-pub returns-then-not-is-false : goal.returns-then-not-is-false
-returns-then-not-is-false c =
+pub returns-then-not-is_false : goal.returns-then-not-is_false
+returns-then-not-is_false c =
     let p : ℤ → Bool = (false_on (trail_of c.args.self.now)) in
     let z : ℤ = get_or c.args.clause.now c.loop-k.k-index (pos 0) in
     let f : SFits w8 z = search rules in
-    sym (every_stop p c.args.clause.now c.loop-k.k-index (pos 0) c.loop-k-test.true (of_bits p z _ f c.if-not-is-false.ensures) c.loop-k.invariant)
+    sym (every_stop p c.args.clause.now c.loop-k.k-index (pos 0) c.loop-k-test.true (of_bits p z _ f c.if-not-is_false.ensures) c.loop-k.invariant)
 
 pub loop-k-preserved : goal.loop-k-preserved
 loop-k-preserved c =
     let p : ℤ → Bool = (false_on (trail_of c.args.self.now)) in
     let z : ℤ = get_or c.args.clause.now c.loop-k.k-index (pos 0) in
     let f : SFits w8 z = search rules in
-    every_more p c.args.clause.now c.loop-k.k-index (pos 0) c.loop-k-test.true (of_bits p z _ f c.if-not-is-false.ensures) c.loop-k.invariant
+    every_more p c.args.clause.now c.loop-k.k-index (pos 0) c.loop-k-test.true (of_bits p z _ f c.if-not-is_false.ensures) c.loop-k.invariant
 
 pub returns : goal.returns
 returns c = sym (every_end (false_on (trail_of c.args.self.now)) c.args.clause.now c.loop-k.k-index c.loop-k-test.false c.loop-k.invariant)

@@ -14,7 +14,7 @@ loop-k-preserved c =
     let i = c.loop-k.k-index in
     let z : ℤ = get_or ls i (pos 0) in
     let fits : SFits w8 z = search rules in
-    let more = highest_more f ls i (pos 0) c.level-besides.result c.loop-k-test.true (sym (of_bits f z _ fits c.level-besides.ensures)) c.loop-k.top in
+    let more = highest_more f ls i (pos 0) c.level_besides.result c.loop-k-test.true (sym (of_bits f z _ fits c.level_besides.ensures)) c.loop-k.top in
     ap (λ n. max n (highest f (drop (i + 1) ls))) c.max-top.ensures ∙ more ∙ c.loop-k.invariant
 
 pub returns : goal.returns
