@@ -126,9 +126,9 @@ impl<T: Theory> Session<T> {
 
     // Back to the level, where the literal follows from the analysed clause.
     fn force(&mut self, literal: i8, level: u8)
-        requires self_value { has_room T.Theory.kind (view T.Theory.kind T.Theory.model self.old) ≡ true }
-        requires literal_value { proper literal ≡ true }
-        requires level_bound { level < false_at (trail_of self.old.trail) literal }
+        requires room { has_room T.Theory.kind (view T.Theory.kind T.Theory.model self.old) ≡ true }
+        requires proper_literal { proper literal ≡ true }
+        requires below_denial { level < false_at (trail_of self.old.trail) literal }
         ensures { view T.Theory.kind T.Theory.model self.new ≡ forced T.Theory.kind (view T.Theory.kind T.Theory.model self.old) literal level }
     {
         let number = self.store.len() + 1;
@@ -145,9 +145,9 @@ impl<T: Theory> Session<T> {
 
     // Back to the level, behind which the literal is chosen.
     fn split(&mut self, literal: i8, level: u8)
-        requires self_value { has_room T.Theory.kind (view T.Theory.kind T.Theory.model self.old) ≡ true }
-        requires literal_value { proper literal ≡ true }
-        requires level_bound { level < false_at (trail_of self.old.trail) literal }
+        requires room { has_room T.Theory.kind (view T.Theory.kind T.Theory.model self.old) ≡ true }
+        requires proper_literal { proper literal ≡ true }
+        requires below_denial { level < false_at (trail_of self.old.trail) literal }
         ensures { view T.Theory.kind T.Theory.model self.new ≡ split T.Theory.kind (view T.Theory.kind T.Theory.model self.old) literal level }
     {
         self.store.push(self.analysed, false);

@@ -108,8 +108,8 @@ impl<T: Theory> Session<T> {
 
     // The trail with a value for the measure.
     fn with_value(&self, measure: u8, numerator: i32) -> Trail
-        requires numerator_value { (within (T.Theory.kind.measures (T.Theory.model self.now.theory)) measure && sized most_numerator numerator) ≡ true }
-        requires trail_value { valued measure (trail_of self.now.trail) ≡ false }
+        requires in_range { (within (T.Theory.kind.measures (T.Theory.model self.now.theory)) measure && sized most_numerator numerator) ≡ true }
+        requires no_value { valued measure (trail_of self.now.trail) ≡ false }
         ensures { trail_of result ≡ enter_choice (trail_of self.now.trail) (Value measure numerator) }
     {
         let level = self.trail.choices() + 1;

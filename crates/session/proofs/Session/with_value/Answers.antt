@@ -6,6 +6,9 @@ use Rattle.session.proofs.Session.with_value.Goals as goal
 
 pub push-requires : goal.push-requires
 push-requires g c =
-    let p = and_parts (within _ c.args.measure) (sized most_numerator c.args.numerator) c.requires.0 in
+    let p = and_parts (within _ c.args.measure) (sized most_numerator c.args.numerator) c.requires.in_range in
     let w = within_more _ most_measures c.args.measure (g.met.T.Theory.few c.args.self.now.theory) p.0 in
-    (and_from _ _ w (ap (sized most_numerator) (to_z-of_z c.ranges.numerator) ∙ p.1), not_from_false _ c.requires.1)
+    record {
+      in_range = and_from _ _ w (ap (sized most_numerator) (to_z-of_z c.ranges.numerator) ∙ p.1);
+      off_trail = not_from_false _ c.requires.no_value;
+    }

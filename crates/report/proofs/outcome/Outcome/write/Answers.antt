@@ -7,5 +7,5 @@ use Rattle.report.proofs.outcome.Outcome.write.Goals as goal
 
 pub returns-in-Impossible : goal.returns-in-Impossible
 returns-in-Impossible c =
-    whole c.if-report-lt-LEAST-BUFFER.false
+    whole c.if-report-lt-LEAST_BUFFER.false
     (same (ap (λ (o : code.Outcome). lines (outcome_of o)) (sym c.in-Impossible.is)) refl refl c.write_bytes.ensures)
