@@ -1,23 +1,22 @@
 -- Every state that the calls lead to keeps its bounds, its reasons and its levels.
-use Rattle.std.proofs.Common.{◌≡◌, ℕ, zero, suc, ◌+◌, ◌-◌, ◌<◌, ◌≤◌, Bool, true, false, cond, not, ◌&&◌, ◌||◌, eqb, ltb, leb, ◌⊎◌, List, [], ◌∷◌, ◌++◌, length, ℤ, pos, negsuc, neg_ℤ, sym, refl, ap, ◌∙◌, subst, inl, inr, ⊎_elim, append_assoc, arith, length-append}
+use Rattle.std.proofs.Common.{◌≡◌, ℕ, ◌+◌, ◌-◌, ◌≤◌, Bool, true, false, not, ◌||◌, eqb, ltb, leb, List, [], ◌∷◌, ◌++◌, length, ℤ, neg_ℤ, sym, refl, ap, ◌∙◌, subst, ⊎_elim, append_assoc, arith, length-append}
 use Rattle.std.specs.List.{AllByRecursion as All}
 use Rattle.std.proofs.ByRecursion.{All-push, All-weaker}
-use Rattle.std.proofs.lemmas.Bool.{true≢false, both_ways, and_parts, and_from, or_cases, or_left, or_right, not-true, cases_Bool, cases_lt, ltb-true, leb-true, le-leb, eqb-true, cond-true, cond-false, cond_both}
-use Rattle.faults.specs.declared.TheoryFault.{TheoryFault}
+use Rattle.std.proofs.lemmas.Bool.{true≢false, both_ways, and_parts, and_from, or_cases, or_left, not-true, cases_Bool, cases_lt, ltb-true, leb-true, cond-true, cond-false, cond_both}
 use Rattle.calculus.specs.Lists.{every, some}
 use Rattle.calculus.specs.Limits.{most_numbers, most_clauses, most_literals, most_measures, most_numerator, most_denominator, within, sized}
 use Rattle.calculus.specs.Literals.{same, number, distinct, clause_like, holds_literal}
 use Rattle.calculus.specs.Calls.{Call}
 use Rattle.calculus.specs.Calls.Call.{Counts, Declare, Admit, Rule, Seal, Lemma, Choose, Set, Propagate, Read, Conflict, Resolve, Jump, Concede, Claim, Abandon}
 use Rattle.calculus.specs.Kinds.{Kind, Lawful}
-use Rattle.calculus.specs.Trails.{Content, Entry, reason, entry_for, affirms, false_on, false_at, choices, up_to, enter, enter_choice, readable, reading_level}
+use Rattle.calculus.specs.Trails.{Content, Entry, reason, false_on, choices, up_to, enter, reading_level}
 use Rattle.calculus.specs.Trails.Origin.{Chosen, Propagated, Read as AsRead}
 use Rattle.calculus.specs.Trails.Content.{Value, Literal}
 use Rattle.calculus.specs.States.{Phase, Stored, State, is_new, is_drafting, is_searching, is_analysing, clause, fresh}
 use Rattle.calculus.specs.States.Phase.{New, Drafting, Searching, Analysing, Closed}
 use Rattle.calculus.specs.Steps.{others, others_false, literal_on, resolvent, top_of, denial, with_model, with_clause, with_trail, forced, split, step, after, run}
-use Rattle.calculus.specs.Bounds.{ClauseUpTo, ContentUpTo, Reasoned, AllReasoned, ReadRight, Bounded, EveryRunBounded}
-use Rattle.calculus.proofs.Testing.{both, every_all, within_true}
+use Rattle.calculus.specs.Bounds.{ClauseUpTo, ContentUpTo, Reasoned, AllReasoned, ReadRight, EveryRunBounded}
+use Rattle.calculus.proofs.Testing.{both, every_all}
 use Rattle.calculus.proofs.Trailing.{up_to_append, up_to_twice, up_to_whole, up_to_weaken, has_whole}
 use Rattle.calculus.proofs.Meaning.{Known, readable_more, read_at, not_below}
 use Rattle.calculus.proofs.Invariant.{Placed, clause_before}
@@ -27,7 +26,7 @@ use Rattle.calculus.proofs.Analysis.{others_below, reason_false}
 use Rattle.calculus.proofs.Room.{room}
 use Rattle.calculus.proofs.Stepping.{TakenSo, stepped}
 use Rattle.calculus.proofs.Distinct.{resolvent_distinct}
-use Rattle.calculus.proofs.Soundness.{Held, held, step_held, after_held, fresh_held, guaranteed, opened, last_clause}
+use Rattle.calculus.proofs.Soundness.{Held, held, step_held, fresh_held, guaranteed, opened, last_clause}
 
 -- the reasons after a clause more, on a trail with an entry more, and back at a level
 reasoned_more : (store : List Stored) (r : Stored) (before : List Entry) (c : Content) (k : ℕ) → Reasoned store before c k → Reasoned (store ++ r ∷ []) before c k

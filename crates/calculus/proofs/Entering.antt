@@ -1,25 +1,22 @@
 -- What enters the trail: a choice, a value, a literal with its reason, a reading.
-use Rattle.std.proofs.Common.{◌≡◌, ℕ, zero, suc, ◌+◌, ◌-◌, ◌<◌, ◌≤◌, max, Bool, true, false, cond, not, ◌&&◌, ◌||◌, eqb, ltb, leb, ◌⊎◌, List, [], ◌∷◌, ◌++◌, map, length, get_or, ℤ, pos, negsuc, neg_ℤ, filter, sym, refl, ap, ◌∙◌, subst, inl, inr, ⊎_elim, arith, length-append}
-use lib.IntN.{neg_ℤ-neg_ℤ}
-use Rattle.std.specs.List.{range_with_len, AllByRecursion as All}
-use Rattle.std.proofs.ByRecursion.{All-push, All-weaker, All-get_or, All-append}
-use Rattle.std.proofs.lemmas.Bool.{true≢false, both_ways, and_parts, and_from, or_cases, or_left, or_right, not-true, not_from_false, cases_Bool, ltb-true, lt-ltb, leb-true, leb-false, le-leb, lt-leb, eqb-true, eq-eqb, cond-true, cond-false, cond_both}
-use Rattle.calculus.specs.Lists.{every, some, highest, nth}
-use Rattle.calculus.specs.Literals.{same, number, signed, holds_literal}
+use Rattle.std.proofs.Common.{◌≡◌, ℕ, zero, suc, ◌+◌, ◌-◌, ◌<◌, ◌≤◌, Bool, true, false, cond, not, ◌||◌, eqb, List, [], ◌∷◌, length, ℤ, pos, negsuc, neg_ℤ, sym, refl, ◌∙◌, subst, ⊎_elim, arith}
+use Rattle.std.specs.List.{AllByRecursion as All}
+use Rattle.std.proofs.ByRecursion.{All-push, All-weaker, All-get_or}
+use Rattle.std.proofs.lemmas.Bool.{true≢false, both_ways, or_cases, or_left, or_right, not-true, not_from_false, cases_Bool, cond_both}
+use Rattle.calculus.specs.Lists.{every}
+use Rattle.calculus.specs.Literals.{same, number, signed}
 use Rattle.calculus.specs.Limits.{within}
-use Rattle.calculus.specs.Kinds.{Kind, Lawful, Whole}
-use Rattle.calculus.specs.Arrangements.{SameFraction, Arrangement}
-use Rattle.calculus.specs.Trails.{Content, Entry, Origin, no_entry, choice, affirms, concerns, values, numerator, reason, entry_for, has_entry, on_trail, false_on, false_at, taken, valued, value, choices, up_to, enter, enter_choice, readable, reading_level, numerators, by_values, reading, stays_true}
+use Rattle.calculus.specs.Kinds.{Kind, Lawful}
+use Rattle.calculus.specs.Trails.{Content, Entry, Origin, choice, affirms, concerns, values, entry_for, has_entry, false_on, taken, valued, choices, up_to, enter, enter_choice, readable, reading_level, numerators, by_values, reading, stays_true}
 use Rattle.calculus.specs.Trails.Origin.{Chosen, Propagated, Read}
-use Rattle.calculus.specs.Bounds.{Numbered}
 use Rattle.calculus.specs.Trails.Content.{Value, Literal}
-use Rattle.calculus.specs.States.{Stored, holds, meets, clause}
-use Rattle.calculus.specs.Steps.{others, others_false, literal_on, resolvent}
+use Rattle.calculus.specs.States.{Stored, meets, clause}
+use Rattle.calculus.specs.Steps.{others_false}
 use Rattle.calculus.specs.Sound.{Keeps}
-use Rattle.calculus.proofs.Testing.{both, front, last, every_all, all_every, every_append, some_left, some_right, some_cases, some_of, all_some, none_all, kept_all, kept_back, counted_le, highest_above, within_true, signed_ap, not_both, same_true, same_refl, number_neg}
-use Rattle.calculus.proofs.Trailing.{clash, Apart, Exclusive, values_exclusive, concerns_exclusive, affirms_concerns, denies_concerns, found, first, apart_push, apart_up_to, numbered_above, up_to_all, up_to_back, up_to_weaken, up_to_append, up_to_twice, up_to_whole, has_more, has_whole, has_up_to, level_up_to}
-use Rattle.calculus.proofs.Meaning.{Known, Given, readable_parts, readable_from, readable_more, whole, gives_own, by_values_moved, kept_reading, read_at, not_below, true_on, unit_true, not_all_false}
-use Rattle.calculus.proofs.Invariant.{Ok, Agrees, Placed, Sensible, Core, agrees_lower, all_kept, agreed, entry_core, late_valued}
+use Rattle.calculus.proofs.Testing.{both, front, last, every_all, all_every, some_left, some_cases, none_all, counted_le, within_true}
+use Rattle.calculus.proofs.Trailing.{clash, apart_push, up_to_weaken, up_to_append, up_to_whole, has_whole}
+use Rattle.calculus.proofs.Meaning.{Known, Given, readable_more, gives_own, by_values_moved, kept_reading, read_at, not_below, unit_true}
+use Rattle.calculus.proofs.Invariant.{Sensible, Core, all_kept, agreed, entry_core, late_valued}
 
 pub entered_valued : (t : List Entry) (l : ℤ) (o : Origin) (k i : ℕ) → valued i (enter t (Literal l o) k) ≡ true → valued i t ≡ true
 entered_valued t l o k i h = ⊎_elim (λ x. x) (λ x. absurd (true≢false (sym x))) (some_cases (λ e. values i e.content) t (record { content = Literal l o; level = k } ∷ []) h)

@@ -1,12 +1,12 @@
 -- The arrangement that a verdict of possible holds was handed out by a claim.
-use Rattle.std.proofs.Common.{◌≡◌, ℕ, ◌⊎◌, List, [], ◌∷◌, Ok, refl, inl, inr, ⊎_elim, arith}
+use Rattle.std.proofs.Common.{◌≡◌, ℕ, ◌⊎◌, List, [], ◌∷◌, Ok, inl, inr, ⊎_elim, arith}
 use Rattle.std.specs.List.{ContainsAt as Has}
 use Rattle.std.proofs.ByRecursion.{has_append_right}
 use Rattle.calculus.specs.Calls.{Call}
 use Rattle.calculus.specs.Calls.Call.{Counts, Declare, Admit, Rule, Seal, Lemma, Choose, Set, Propagate, Read, Conflict, Resolve, Jump, Concede, Claim, Abandon}
 use Rattle.calculus.specs.Arrangements.{Arrangement}
 use Rattle.calculus.specs.Kinds.{Kind}
-use Rattle.calculus.specs.States.{Phase, State, fresh}
+use Rattle.calculus.specs.States.{State, fresh}
 use Rattle.calculus.specs.States.Phase.{Drafting, Searching, Analysing, Closed}
 use Rattle.calculus.specs.States.Verdict.{Impossible, Possible, Undecided}
 use Rattle.calculus.specs.Steps.{Outcome, arranged, step, after, answers}

@@ -1,25 +1,25 @@
 -- What keeps the guarantees: the invariant, and what it is worth after a clause, an entry, a jump, or a new model.
-use Rattle.std.proofs.Common.{◌≡◌, ℕ, zero, suc, ◌+◌, ◌-◌, ◌<◌, ◌≤◌, max, Bool, true, false, cond, not, ◌&&◌, ◌||◌, eqb, ltb, leb, ◌⊎◌, List, [], ◌∷◌, ◌++◌, map, length, get_or, ℤ, pos, negsuc, ◌*ℤ◌, neg_ℤ, sym, refl, ap, ◌∙◌, subst, inl, inr, ⊎_elim, arith, length-append}
+use Rattle.std.proofs.Common.{◌≡◌, ℕ, ◌+◌, ◌-◌, ◌<◌, ◌≤◌, Bool, true, false, cond, ◌||◌, ltb, leb, List, [], ◌∷◌, ◌++◌, length, ℤ, neg_ℤ, sym, refl, ap, ◌∙◌, subst, ⊎_elim, arith, length-append}
 use lib.ListN.{get_or-append}
-use Rattle.std.specs.List.{range_with_len, AllByRecursion as All}
+use Rattle.std.specs.List.{AllByRecursion as All}
 use Rattle.std.proofs.ByRecursion.{All-push, All-weaker}
-use Rattle.std.proofs.lemmas.Bool.{true≢false, both_ways, and_parts, and_from, or_cases, or_left, or_right, not-true, not_from_false, cases_Bool, ltb-true, lt-ltb, leb-true, leb-false, le-leb, lt-leb, eqb-true, eq-eqb, cond-true, cond-false, cond_both}
+use Rattle.std.proofs.lemmas.Bool.{true≢false, and_from, or_cases, or_left, or_right, cases_Bool, lt-ltb, leb-true, le-leb, cond_both}
 use Rattle.calculus.specs.declared.Judgement.TheVariants.{Yes}
-use Rattle.calculus.specs.Lists.{every, some, highest, nth}
-use Rattle.calculus.specs.Literals.{same, number, signed}
+use Rattle.calculus.specs.Lists.{every}
+use Rattle.calculus.specs.Literals.{same, number}
 use Rattle.calculus.specs.Limits.{within}
-use Rattle.calculus.specs.Kinds.{Kind, Lawful, Whole}
-use Rattle.calculus.specs.Arrangements.{SameFraction, Arrangement}
-use Rattle.calculus.specs.Trails.{Content, Entry, Origin, choice, affirms, concerns, values, numerator, entry_for, has_entry, on_trail, false_on, taken, valued, value, choices, up_to, enter, readable, reading_level, numerators, by_values}
+use Rattle.calculus.specs.Kinds.{Kind, Lawful}
+use Rattle.calculus.specs.Arrangements.{Arrangement}
+use Rattle.calculus.specs.Trails.{Content, Entry, choice, affirms, values, has_entry, false_on, valued, choices, up_to, enter, readable, numerators, by_values}
 use Rattle.calculus.specs.Trails.Origin.{Chosen, Propagated, Read}
 use Rattle.calculus.specs.Bounds.{Numbered}
 use Rattle.calculus.specs.Trails.Content.{Value, Literal}
-use Rattle.calculus.specs.States.{Stored, holds, meets, clause}
+use Rattle.calculus.specs.States.{Stored, meets, clause}
 use Rattle.calculus.specs.Steps.{others_false}
 use Rattle.calculus.specs.Sound.{Keeps}
-use Rattle.calculus.proofs.Testing.{both, front, last, every_all, all_every, some_left, some_right, some_cases, none_all, within_true, signed_ap}
-use Rattle.calculus.proofs.Trailing.{clash, Apart, Exclusive, apart_push, apart_up_to, choices_push, numbered_push, numbered_up_to, up_to_all, up_to_back, up_to_weaken, up_to_append, up_to_twice, up_to_whole, has_more, has_whole, has_up_to}
-use Rattle.calculus.proofs.Meaning.{Known, Given, readable_parts, readable_from, readable_more, whole, gives_own, by_values_moved, kept_reading}
+use Rattle.calculus.proofs.Testing.{both, front, every_all, all_every, some_left, some_cases, within_true}
+use Rattle.calculus.proofs.Trailing.{clash, Apart, apart_push, apart_up_to, choices_push, numbered_push, numbered_up_to, up_to_all, up_to_back, up_to_weaken, up_to_append, up_to_twice, has_whole}
+use Rattle.calculus.proofs.Meaning.{Known, Given, readable_more, gives_own, by_values_moved}
 
 -- an arrangement that the theory admits and that meets every rule
 abbrev pub Ok : (K : Kind) → K.Model → ℕ → List Stored → Arrangement → Type 0

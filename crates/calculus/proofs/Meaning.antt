@@ -1,20 +1,19 @@
 -- What readable atoms mean: the values that an atom mentions decide it.
-use Rattle.std.proofs.Common.{◌≡◌, ℕ, zero, suc, ◌+◌, ◌-◌, ◌<◌, ◌≤◌, max, Bool, true, false, cond, not, ◌&&◌, ◌||◌, eqb, ltb, leb, ◌⊎◌, List, [], ◌∷◌, ◌++◌, map, length, get_or, ℤ, pos, negsuc, ◌*ℤ◌, neg_ℤ, sym, refl, ap, ◌∙◌, subst, inl, inr, ⊎_elim, arith}
+use Rattle.std.proofs.Common.{◌≡◌, ℕ, zero, suc, ◌-◌, ◌<◌, ◌≤◌, Bool, true, false, cond, not, ◌||◌, ltb, leb, List, ℤ, pos, ◌*ℤ◌, neg_ℤ, sym, refl, ap, ◌∙◌, subst, ⊎_elim, arith}
 use Rattle.std.specs.List.{range_with_len, AllByRecursion as All}
-use Rattle.std.proofs.ByRecursion.{All-push, All-weaker}
 use Rattle.std.proofs.lemmas.List.FromFn.{length-map-range_with_len, get_or-map-range_with_len}
-use Rattle.std.proofs.lemmas.Bool.{true≢false, both_ways, and_parts, and_from, or_cases, or_left, or_right, not-true, not_from_false, cases_Bool, ltb-true, lt-ltb, leb-true, leb-false, le-leb, lt-leb, eqb-true, eq-eqb, cond-true, cond-false, cond_both}
-use Rattle.calculus.specs.Lists.{every, some, highest, nth}
+use Rattle.std.proofs.lemmas.Bool.{true≢false, both_ways, and_parts, and_from, or_cases, or_left, or_right, not-true, not_from_false, cases_Bool, ltb-true, lt-ltb, lt-leb, eqb-true, eq-eqb, cond-true, cond-false, cond_both}
+use Rattle.calculus.specs.Lists.{every, nth}
 use Rattle.calculus.specs.Literals.{same, number, signed}
 use Rattle.calculus.specs.Limits.{within}
 use Rattle.calculus.specs.Kinds.{Kind, Lawful, Whole}
 use Rattle.calculus.specs.Arrangements.{SameFraction, Arrangement}
-use Rattle.calculus.specs.Trails.{Content, Entry, Origin, choice, affirms, concerns, values, numerator, entry_for, has_entry, on_trail, false_on, taken, valued, value, choices, up_to, readable, reading_level, numerators, by_values}
+use Rattle.calculus.specs.Trails.{Content, Entry, affirms, values, numerator, entry_for, on_trail, false_on, valued, value, up_to, readable, reading_level, numerators, by_values}
 use Rattle.calculus.specs.Trails.Content.{Value, Literal}
-use Rattle.calculus.specs.States.{Stored, holds, meets}
+use Rattle.calculus.specs.States.{holds, meets}
 use Rattle.calculus.specs.Sound.{Keeps}
 use Rattle.calculus.proofs.Testing.{both, counted, count_all, counted_le, counted_at, within_true, signed_ap, not_both, same_true, every_all, some_of}
-use Rattle.calculus.proofs.Trailing.{Apart, Exclusive, values_exclusive, found, first, up_to_all, has_up_to, level_up_to, has_more}
+use Rattle.calculus.proofs.Trailing.{Apart, Exclusive, values_exclusive, found, first, has_up_to, level_up_to}
 
 -- the content is on a number that there is, or on a measure
 abbrev pub Known : ℕ → ℕ → Content → Type 0

@@ -1,20 +1,19 @@
 -- A new model: what is said of the old atoms stays.
-use Rattle.std.proofs.Common.{◌≡◌, ℕ, zero, suc, ◌+◌, ◌-◌, ◌<◌, ◌≤◌, max, Bool, true, false, cond, not, ◌&&◌, ◌||◌, eqb, ltb, leb, ◌⊎◌, List, [], ◌∷◌, ◌++◌, map, length, get_or, ℤ, pos, negsuc, neg_ℤ, sym, refl, ap, ◌∙◌, subst, inl, inr, ⊎_elim, arith}
+use Rattle.std.proofs.Common.{◌≡◌, ℕ, ◌+◌, ◌-◌, ◌<◌, ◌≤◌, true, false, cond, not, ◌&&◌, ◌||◌, ltb, leb, ◌⊎◌, List, [], ◌∷◌, map, ℤ, sym, refl, ap, ◌∙◌, subst, inl, inr, ⊎_elim, arith}
 use Rattle.std.specs.List.{range_with_len, AllByRecursion as All}
-use Rattle.std.proofs.ByRecursion.{All-push, All-weaker}
+use Rattle.std.proofs.ByRecursion.{All-weaker}
 use Rattle.std.proofs.lemmas.Bool.{and_parts, and_from, and_left, lt-ltb, le-leb, ltb-true, leb-false, cases_Bool, cases_lt, cond-true}
 use Rattle.faults.specs.declared.TheoryFault.{TheoryFault}
 use Rattle.calculus.specs.declared.Judgement.TheVariants.{Yes}
-use Rattle.calculus.specs.Lists.{every, some, highest, nth}
-use Rattle.calculus.specs.Literals.{same, number, signed}
+use Rattle.calculus.specs.Lists.{every, nth}
+use Rattle.calculus.specs.Literals.{number, signed}
 use Rattle.calculus.specs.Limits.{most_measures, within}
 use Rattle.calculus.specs.Kinds.{Kind, Lawful, Whole, OneMore, Narrower}
-use Rattle.calculus.specs.Trails.{Content, Entry, Origin, choice, valued, value, choices, up_to, readable, numerators, by_values}
+use Rattle.calculus.specs.Trails.{Content, Entry, choice, valued, value, up_to, readable, numerators, by_values}
 use Rattle.calculus.specs.Trails.Origin.{Chosen, Propagated, Read}
 use Rattle.calculus.specs.Trails.Content.{Value, Literal}
 use Rattle.calculus.specs.Arrangements.{Arrangement}
-use Rattle.calculus.specs.States.{Stored, holds, meets, clause}
-use Rattle.calculus.specs.Steps.{others_false}
+use Rattle.calculus.specs.States.{Stored, holds, meets}
 use Rattle.calculus.specs.Sound.{Keeps}
 use Rattle.calculus.proofs.Testing.{both, within_true, signed_ap}
 use Rattle.calculus.proofs.Meaning.{Known, readable_parts}

@@ -1,11 +1,11 @@
 -- A trail is no longer than there are numbers and measures.
-use Rattle.std.proofs.Common.{◌≡◌, ℕ, zero, suc, ◌+◌, ◌-◌, ◌<◌, ◌≤◌, Bool, true, false, cond, not, ◌&&◌, ◌||◌, eqb, ltb, leb, ◌⊎◌, List, [], ◌∷◌, ◌++◌, length, ℤ, pos, negsuc, neg_ℤ, filter, sym, refl, ap, ◌∙◌, subst, inl, inr, ⊎_elim, arith}
+use Rattle.std.proofs.Common.{◌≡◌, ℕ, zero, suc, ◌+◌, ◌≤◌, Bool, true, false, not, eqb, ltb, leb, List, [], ◌∷◌, length, filter, sym, refl, ap, ◌∙◌, ⊎_elim, arith}
 use Rattle.std.specs.List.{AllByRecursion as All}
 use Rattle.std.proofs.ByRecursion.{All-weaker, all_kept_by}
-use Rattle.std.proofs.lemmas.Bool.{true≢false, and_from, not-true, not_from_false, cases_Bool, lt-ltb, le-leb, eqb-true, eq-eqb, eqb-false, cond-true, cond-false, cond_both}
+use Rattle.std.proofs.lemmas.Bool.{true≢false, and_from, not-true, not_from_false, cases_Bool, lt-ltb, le-leb, eqb-false, cond-true, cond-false, cond_both}
 use Rattle.calculus.specs.Literals.{number}
 use Rattle.calculus.specs.Limits.{within}
-use Rattle.calculus.specs.Trails.{Content, Entry, Origin, choice, concerns, values, choices}
+use Rattle.calculus.specs.Trails.{Content, Entry, choice, concerns, values, choices}
 use Rattle.calculus.specs.Trails.Content.{Value, Literal}
 use Rattle.calculus.proofs.Testing.{kept_all, within_true}
 use Rattle.calculus.proofs.Trailing.{clash, Apart, Exclusive, values_exclusive, concerns_exclusive}

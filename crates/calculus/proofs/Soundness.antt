@@ -1,35 +1,28 @@
 -- Every state that the calls lead to keeps the guarantees.
-use Rattle.std.proofs.Common.{◌≡◌, ℕ, zero, suc, ◌+◌, ◌-◌, ◌<◌, ◌≤◌, max, Bool, true, false, cond, not, ◌&&◌, ◌||◌, eqb, ltb, leb, ◌⊎◌, List, [], ◌∷◌, ◌++◌, map, length, get_or, ℤ, pos, negsuc, neg_ℤ, sym, refl, ap, ◌∙◌, subst, subst₂, inl, inr, ⊎_elim, arith, length-append}
-use Rattle.std.specs.List.{range_with_len, ContainsAt as Has, AllByRecursion as All}
-use Rattle.std.proofs.ByRecursion.{All-push, All-weaker, All-get_or, all-has}
-use Rattle.std.proofs.lemmas.List.{get_or_push}
+use Rattle.std.proofs.Common.{◌≡◌, ℕ, zero, suc, ◌+◌, ◌-◌, ◌<◌, ◌≤◌, Bool, true, false, cond, not, ◌||◌, eqb, ltb, leb, List, [], ◌∷◌, ◌++◌, length, get_or, ℤ, pos, neg_ℤ, sym, refl, ap, ◌∙◌, subst, subst₂, ⊎_elim, arith, length-append}
+use Rattle.std.specs.List.{AllByRecursion as All}
+use Rattle.std.proofs.ByRecursion.{All-weaker}
 use Rattle.std.proofs.lemmas.List.FromFn.{length-map-range_with_len}
-use Rattle.std.proofs.lemmas.Bool.{true≢false, both_ways, and_parts, and_from, or_cases, or_left, or_right, not-true, not_from_false, cases_Bool, ltb-true, ltb-false, lt-ltb, leb-true, leb-false, le-leb, lt-leb, eqb-true, eq-eqb, cond-true, cond-false, cond_both}
-use Rattle.faults.specs.declared.TheoryFault.{TheoryFault}
-use Rattle.faults.specs.declared.SessionFault.{SessionFault}
-use Rattle.calculus.specs.declared.Judgement.{Judgement}
-use Rattle.calculus.specs.declared.Judgement.TheVariants.{Yes, No}
-use Rattle.calculus.specs.declared.Vouching.{Vouching}
-use Rattle.calculus.specs.declared.Vouching.TheVariants.{Vouched, Unvouched, Refused}
+use Rattle.std.proofs.lemmas.Bool.{true≢false, both_ways, and_parts, and_from, or_cases, or_left, or_right, not-true, ltb-true, lt-ltb, le-leb, eqb-true, cond-false, cond_both}
 use Rattle.calculus.specs.Lists.{every, some, highest, nth}
-use Rattle.calculus.specs.Literals.{same, number, signed, proper, clause_like, holds_literal}
+use Rattle.calculus.specs.Literals.{number, signed, holds_literal}
 use Rattle.calculus.specs.Limits.{most_denominator, most_numerator, sized, within}
-use Rattle.calculus.specs.Kinds.{Kind, Lawful, Whole, some_atom}
-use Rattle.calculus.specs.Arrangements.{SameFraction, Arrangement}
-use Rattle.calculus.specs.Trails.{Content, Entry, Origin, choice, affirms, concerns, values, numerator, reason, entry_for, has_entry, on_trail, false_on, false_at, taken, valued, value, choices, up_to, enter, enter_choice, readable, reading_level, numerators, by_values, reading, stays_true}
-use Rattle.calculus.specs.Trails.Origin.{Chosen, Propagated}
+use Rattle.calculus.specs.Kinds.{Kind, Lawful, some_atom}
+use Rattle.calculus.specs.Arrangements.{Arrangement}
+use Rattle.calculus.specs.Trails.{Content, Entry, affirms, concerns, values, reason, entry_for, on_trail, false_on, false_at, taken, valued, value, choices, up_to, enter, readable, by_values}
+use Rattle.calculus.specs.Trails.Origin.{Propagated}
 use Rattle.calculus.specs.Trails.Content.{Value, Literal}
-use Rattle.calculus.specs.States.{State, Phase, Verdict, Stored, fresh, is_new, is_drafting, is_searching, is_analysing, holds, meets, clause}
+use Rattle.calculus.specs.States.{State, Phase, Stored, fresh, is_new, is_drafting, is_searching, is_analysing, holds, meets, clause}
 use Rattle.calculus.specs.Calls.{Call}
-use Rattle.calculus.specs.Steps.{top_of, denial, drafted, with_model, with_atom, with_clause, with_trail, sealed, turned, arranged, resumed, forced, split, others, others_false, literal_on, resolvent, all_read, step, after, run}
+use Rattle.calculus.specs.Steps.{top_of, denial, with_trail, arranged, resumed, forced, split, others, others_false, literal_on, step, after, run}
 use Rattle.calculus.specs.States.Phase.{New, Drafting, Searching, Analysing, Closed}
 use Rattle.calculus.specs.States.Verdict.{Impossible, Possible, Undecided}
 use Rattle.calculus.specs.Calls.Call.{Counts, Declare, Admit, Rule, Seal, Lemma, Choose, Set, Propagate, Read, Conflict, Resolve, Jump, Concede, Claim, Abandon}
 use Rattle.calculus.specs.Sound.{Keeps, Guarantees, EveryRunSound}
-use Rattle.calculus.proofs.Testing.{both, front, last, every_all, all_every, within_true, signed_ap, same_true, no_own_denial, some_of}
+use Rattle.calculus.proofs.Testing.{both, last, every_all, within_true, signed_ap, same_true, no_own_denial}
 use Rattle.calculus.proofs.Trailing.{Exclusive, values_exclusive, concerns_exclusive, affirms_concerns, denies_concerns, found, first}
-use Rattle.calculus.proofs.Meaning.{Known, whole}
-use Rattle.calculus.proofs.Invariant.{Ok, Agrees, Placed, Sensible, Core, agrees_lower, clause_core, ok_before, up_to_core, count_up_to}
+use Rattle.calculus.proofs.Meaning.{Known}
+use Rattle.calculus.proofs.Invariant.{Ok, Agrees, Sensible, Core, agrees_lower, clause_core, ok_before, up_to_core, count_up_to}
 use Rattle.calculus.proofs.Models.{Extends, one_more_extends, narrower_extends, model_core, count_taken}
 use Rattle.calculus.proofs.Entering.{clause_of, choose_core, force_core, set_core, read_core}
 use Rattle.calculus.proofs.Stepping.{TakenSo, stepped}

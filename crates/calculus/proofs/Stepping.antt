@@ -1,5 +1,5 @@
 -- A step by cases: it is refused and changes nothing, or its tests hold and it does what it says.
-use Rattle.std.proofs.Common.{◌≡◌, ℕ, ◌-◌, Bool, true, false, cond, not, ◌&&◌, ◌||◌, eqb, ltb, leb, ◌⊎◌, List, [], length, ℤ, Ok, Err, refl, inl, inr}
+use Rattle.std.proofs.Common.{◌≡◌, ◌-◌, Bool, true, false, cond, not, ◌&&◌, ◌||◌, eqb, ltb, leb, ◌⊎◌, [], length, Ok, Err, refl, inl, inr}
 use Rattle.std.specs.List.{range_with_len}
 use Rattle.faults.specs.declared.StateCause.TheVariants.{NotVouched, NotAdmitted}
 use Rattle.faults.specs.declared.TheoryFault.{TheoryFault}

@@ -1,14 +1,13 @@
 -- What a trail says: its first entries, its levels, its choices.
-use Rattle.std.proofs.Common.{◌≡◌, ℕ, zero, suc, ◌+◌, ◌-◌, ◌<◌, ◌≤◌, max, Bool, true, false, cond, not, ◌&&◌, ◌||◌, eqb, ltb, leb, ◌⊎◌, List, [], ◌∷◌, ◌++◌, ℤ, pos, negsuc, neg_ℤ, sym, refl, ap, ◌∙◌, subst, inl, inr, ⊎_elim, add_assoc, arith}
+use Rattle.std.proofs.Common.{◌≡◌, ℕ, ◌+◌, ◌<◌, ◌≤◌, Bool, true, false, cond, eqb, leb, List, [], ◌∷◌, ◌++◌, ℤ, neg_ℤ, sym, refl, ap, ◌∙◌, subst, ⊎_elim, add_assoc, arith}
 use Rattle.std.specs.List.{AllByRecursion as All}
 use Rattle.std.proofs.ByRecursion.{All-push, All-weaker}
-use Rattle.std.proofs.lemmas.Bool.{true≢false, and_parts, and_from, or_cases, or_left, or_right, cases_Bool, ltb-true, leb-true, leb-false, le-leb, lt-leb, eqb-true, eq-eqb, cond-true, cond-false, cond_both}
-use Rattle.calculus.specs.Lists.{every, some, highest}
-use Rattle.calculus.specs.Literals.{same, number, signed}
-use Rattle.calculus.specs.Trails.{Content, Entry, Origin, no_entry, choice, affirms, concerns, values, numerator, entry_for, has_entry, on_trail, taken, valued, value, choices, up_to, enter}
+use Rattle.std.proofs.lemmas.Bool.{true≢false, or_cases, or_left, or_right, cases_Bool, leb-true, leb-false, le-leb, lt-leb, eqb-true, eq-eqb, cond-true, cond-false, cond_both}
+use Rattle.calculus.specs.Literals.{number}
+use Rattle.calculus.specs.Trails.{Content, Entry, choice, affirms, concerns, values, entry_for, has_entry, choices, up_to}
 use Rattle.calculus.specs.Bounds.{Numbered}
 use Rattle.calculus.specs.Trails.Content.{Value, Literal}
-use Rattle.calculus.proofs.Testing.{both, same_true, number_neg, some_left, some_right, some_cases}
+use Rattle.calculus.proofs.Testing.{both, same_true, number_neg}
 
 -- two contents on one number, or on one measure
 abbrev pub clash : Content → Content → Bool

@@ -1,5 +1,5 @@
 -- What else holds of every state that calls lead to: its bounds, its reasons and its levels.
-use Rattle.std.specs.Prelude.{◌≡◌, ℕ, ◌+◌, ◌≤◌, Bool, true, false, cond, List, [], ◌∷◌, ◌++◌, length, ℤ}
+use Rattle.std.specs.Prelude.{◌≡◌, ℕ, ◌+◌, ◌≤◌, true, false, cond, List, [], ◌∷◌, ◌++◌, length, ℤ}
 use Rattle.std.specs.List.{AllByRecursion as All}
 use Rattle.calculus.specs.Lists.{every}
 use Rattle.calculus.specs.Limits.{most_numbers, most_clauses, most_measures, most_numerator, most_denominator, within, sized}

@@ -1,5 +1,5 @@
 -- What a theory is, and the laws that it keeps.
-use Rattle.std.specs.Prelude.{◌≡◌, ℕ, ◌+◌, ◌-◌, ◌<◌, ◌≤◌, Bool, true, false, cond, ◌||◌, ◌⊎◌, ◌↔◌, List, [], ◌∷◌, length, ℤ, pos, nat_le}
+use Rattle.std.specs.Prelude.{◌≡◌, ℕ, ◌+◌, ◌-◌, ◌<◌, ◌≤◌, Bool, true, false, cond, ◌⊎◌, ◌↔◌, List, [], length, ℤ, pos, nat_le}
 use Rattle.std.proofs.Common.{inl, inr}
 use Rattle.faults.specs.declared.InputCause.{InputCause}
 use Rattle.faults.specs.declared.InputCause.TheVariants.{WrongLength, OutOfRange}

@@ -1,5 +1,5 @@
 -- The limits of a session.
-use Rattle.std.specs.Prelude.{ℕ, ◌*◌, ◌^◌, Bool, ◌&&◌, ℤ, pos, negsuc, nat_le, nat_lt}
+use Rattle.std.specs.Prelude.{ℕ, Bool, ◌&&◌, ℤ, pos, negsuc, nat_le, nat_lt}
 
 -- switches and atoms together
 abbrev pub most_numbers : ℕ

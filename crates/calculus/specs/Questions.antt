@@ -1,5 +1,5 @@
 -- What a theory's calls and questions answer: what it means, within the limits.
-use Rattle.std.specs.Prelude.{◌≡◌, ℕ, Bool, true, false, cond, ◌&&◌, ◌⊎◌, List, length, ℤ, Ok, Err, Result, ◌==◌}
+use Rattle.std.specs.Prelude.{◌≡◌, ℕ, Bool, cond, ◌&&◌, ◌⊎◌, List, length, ℤ, Ok, Err, Result, ◌==◌}
 use Rattle.std.proofs.Common.{inl, inr}
 use Rattle.faults.specs.declared.TheoryFault.{TheoryFault}
 use Rattle.calculus.specs.declared.Judgement.{Judgement}

@@ -1,5 +1,5 @@
 -- What the calls do, in a few sentences above their definitions.
-use Rattle.std.specs.Prelude.{◌≡◌, ℕ, ◌+◌, ◌<◌, Bool, true, false, ◌⊎◌, List, length, ℤ, Ok, Err}
+use Rattle.std.specs.Prelude.{◌≡◌, ℕ, ◌+◌, ◌<◌, true, ◌⊎◌, List, length, ℤ, Ok, Err}
 use Rattle.std.specs.List.{AllByRecursion as All}
 use Rattle.faults.specs.declared.SessionFault.{SessionFault}
 use Rattle.calculus.specs.declared.Judgement.TheVariants.{Yes}

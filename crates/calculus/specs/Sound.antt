@@ -12,7 +12,7 @@ use Rattle.calculus.specs.Trails.Content.{Value, Literal}
 use Rattle.calculus.specs.States.{State, fresh, holds, meets}
 use Rattle.calculus.specs.States.Phase.{Closed}
 use Rattle.calculus.specs.States.Verdict.{Impossible, Possible}
-use Rattle.calculus.specs.Steps.{Reply, answers, run}
+use Rattle.calculus.specs.Steps.{answers, run}
 use Rattle.calculus.specs.Steps.Reply.{Handed}
 
 -- the arrangement meets the literal, or gives the measure its fraction over d

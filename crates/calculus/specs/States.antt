@@ -1,5 +1,5 @@
 -- The states of a session.
-use Rattle.std.specs.Prelude.{ℕ, ◌+◌, ◌-◌, Bool, true, false, cond, ◌||◌, List, [], ℤ, nat_le, slice_index_or}
+use Rattle.std.specs.Prelude.{ℕ, ◌-◌, Bool, true, false, cond, List, [], ℤ, nat_le, slice_index_or}
 use Rattle.calculus.specs.Lists.{some, nth}
 use Rattle.calculus.specs.Literals.{signed}
 use Rattle.calculus.specs.Arrangements.{Arrangement}

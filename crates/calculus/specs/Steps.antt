@@ -1,6 +1,6 @@
 -- The calculus: what each call answers, and what the state becomes.
 -- A call is a list of tests, each with the fault that it gives, and then what is done: read it from the top.
-use Rattle.std.specs.Prelude.{◌≡◌, ℕ, ◌+◌, ◌-◌, Bool, true, false, cond, not, ◌&&◌, ◌||◌, ◌⊎◌, List, [], ◌∷◌, ◌++◌, map, length, ℤ, pos, neg_ℤ, Ok, Err, filter, Result, ◌==◌, nat_eq, nat_le, nat_lt}
+use Rattle.std.specs.Prelude.{ℕ, ◌+◌, ◌-◌, Bool, true, false, cond, not, ◌&&◌, ◌||◌, ◌⊎◌, List, [], ◌∷◌, ◌++◌, map, length, ℤ, pos, neg_ℤ, Ok, Err, filter, Result, ◌==◌, nat_eq, nat_le, nat_lt}
 use Rattle.std.proofs.Common.{inl, inr}
 use Rattle.std.specs.List.{range_with_len}
 use Rattle.faults.specs.declared.InputCause.TheVariants.{OutOfRange, BadLiteral, BadClause}
@@ -23,7 +23,7 @@ use Rattle.calculus.specs.Kinds.{Kind}
 use Rattle.calculus.specs.Trails.{Entry, entry_for, affirms, was_read, reason, on_trail, false_on, false_at, taken, valued, choices, up_to, enter, enter_choice, readable, reading_level, numerators, reading, stays_true}
 use Rattle.calculus.specs.Trails.Origin.{Chosen, Propagated, Read as AsRead}
 use Rattle.calculus.specs.Trails.Content.{Value, Literal}
-use Rattle.calculus.specs.States.{Phase, Stored, State, is_new, is_drafting, is_searching, is_analysing, clause, fresh, meets}
+use Rattle.calculus.specs.States.{Phase, State, is_new, is_drafting, is_searching, is_analysing, clause, fresh, meets}
 use Rattle.calculus.specs.States.Phase.{Drafting, Searching, Analysing, Closed}
 use Rattle.calculus.specs.States.Verdict.{Impossible, Possible, Undecided}
 

@@ -1,7 +1,7 @@
 -- Two lists gone through place by place.
-use Rattle.std.proofs.Common.{◌≡◌, ℕ, zero, suc, ◌+◌, ◌<◌, ◌≤◌, Bool, true, false, ◌&&◌, List, [], ◌∷◌, length, get_or, drop, sym, refl, ap, ◌∙◌, arith}
+use Rattle.std.proofs.Common.{◌≡◌, ℕ, suc, ◌+◌, ◌<◌, ◌≤◌, Bool, true, false, ◌&&◌, List, [], ◌∷◌, length, get_or, drop, refl, ap, ◌∙◌, arith}
 use Rattle.std.proofs.lemmas.List.{at_drop_more, at_drop_all}
-use Rattle.std.proofs.lemmas.Bool.{and_left, and_right}
+use Rattle.std.proofs.lemmas.Bool.{and_right}
 use Rattle.congruence.specs.Applications.{at_each_place}
 
 place : (f : ℕ → ℕ → Bool) (is js : List ℕ) (k : ℕ) → length is ≡ length js → k < length is → at_each_place f (drop k is) (drop k js) ≡ (f (get_or is k 0) (get_or js k 0) && at_each_place f (drop (k + 1) is) (drop (k + 1) js))

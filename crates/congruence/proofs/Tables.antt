@@ -1,5 +1,5 @@
 -- The table of applications by place.
-use Rattle.std.proofs.Common.{◌≡◌, ℕ, ◌+◌, ◌<◌, ◌≤◌, Bool, true, false, List, length, get_or, sym, refl, ap, ◌∙◌, arith}
+use Rattle.std.proofs.Common.{◌≡◌, ℕ, ◌+◌, ◌<◌, ◌≤◌, Bool, true, false, length, get_or, ap, ◌∙◌, arith}
 use Rattle.calculus.specs.Lists.{every}
 use Rattle.calculus.proofs.Looping.{Unfailed, every_stop, every_more, every_end}
 use Rattle.calculus.proofs.Tabling.{length_table, at_table}

@@ -1,5 +1,5 @@
 -- A declaration that passes its tests is taken.
-use Rattle.std.proofs.Common.{◌≡◌, ℕ, ◌+◌, ◌-◌, ◌<◌, ◌≤◌, Bool, true, false, cond, ◌&&◌, eqb, ltb, ◌⊎◌, List, [], ◌∷◌, length, get_or, take, drop, ℤ, sym, refl, ap, ◌∙◌, inl, inr, arith}
+use Rattle.std.proofs.Common.{◌≡◌, ℕ, ◌+◌, ◌-◌, ◌<◌, ◌≤◌, true, false, cond, ◌&&◌, eqb, ltb, ◌⊎◌, List, [], ◌∷◌, length, get_or, take, drop, ℤ, sym, refl, ap, ◌∙◌, inl, inr, arith}
 use Rattle.std.proofs.lemmas.Bool.{and_from, eq-eqb, true≢false, lt-ltb, cond-true, cond-false}
 use Rattle.faults.specs.declared.TheoryFault.{TheoryFault}
 use Rattle.calculus.specs.declared.Vouching.TheVariants.{Vouched, Unvouched}
@@ -8,7 +8,7 @@ use Rattle.calculus.specs.Limits.{within}
 use Rattle.calculus.specs.Kinds.{Kind, all_there}
 use Rattle.calculus.specs.Questions.{answered, left}
 use Rattle.congruence.specs.Applications.{Application, most_applications, most_arguments, no_application}
-use Rattle.congruence.specs.Congruences.{Congruences, congruence, own_kind, is_own, raised_result, raised_vouching, with_application, passed, applied, declared, application_taken, declaring, congruent, matched, vouching}
+use Rattle.congruence.specs.Congruences.{Congruences, congruence, own_kind, is_own, raised_result, raised_vouching, with_application, passed, applied, application_taken, declaring, congruent, matched, vouching}
 
 module _ (K : Kind) (m : Congruences K) (a : Application) where
   applied_so : (f n : ℕ) (places : List ℕ) → length places ≡ n + 1 → every (within (K.measures m.below)) places ≡ true → within most_arguments (length places - 1) ≡ true

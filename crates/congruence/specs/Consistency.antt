@@ -1,12 +1,12 @@
 -- In an admitted arrangement a clause that matches two applications has a true literal.
-use Rattle.std.specs.Prelude.{◌≡◌, ℕ, zero, suc, ◌+◌, ◌-◌, ◌<◌, ◌≤◌, Bool, true, false, cond, not, ◌&&◌, ◌||◌, ◌⊎◌, List, [], ◌∷◌, ◌++◌, length, ℤ, pos, negsuc, ◌==◌, ◌≢◌, nat_le, nat_lt, refl}
-use Rattle.std.proofs.Common.{sym, ◌∙◌, ap, subst, inl, inr, ⊎_elim, arith}
+use Rattle.std.specs.Prelude.{◌≡◌, ℕ, zero, suc, ◌-◌, true, false, cond, not, ◌&&◌, ◌||◌, List, [], ◌∷◌, ◌++◌, length, ℤ, pos, negsuc, ◌==◌, ◌≢◌, nat_le, nat_lt, refl}
+use Rattle.std.proofs.Common.{sym, ◌∙◌, subst, ⊎_elim, arith}
 use Rattle.std.specs.List.{AllByRecursion as All}
 use Rattle.std.proofs.ByRecursion.{All-get_or, All-weaker}
-use Rattle.std.proofs.lemmas.Bool.{true≢false, both_ways, and_parts, and_from, and_left, and_right, or_cases, or_parts, or_left, or_right, not-true, not-false, not_from_false, cases_Bool, eqb-true, ltb-true, lt-leb, cond-false}
+use Rattle.std.proofs.lemmas.Bool.{true≢false, both_ways, and_parts, and_from, or_cases, or_parts, not-true, not-false, cases_Bool, eqb-true, ltb-true, lt-leb, cond-false}
 use Rattle.calculus.specs.Lists.{every, some, nth}
 use Rattle.calculus.specs.Limits.{within}
-use Rattle.calculus.specs.Literals.{same, number, signed}
+use Rattle.calculus.specs.Literals.{same}
 use Rattle.calculus.specs.Kinds.{Kind, Lawful, Whole, some_atom}
 use Rattle.calculus.proofs.Testing.{every_all, all_every, front, within_true, same_true, same_refl}
 use Rattle.congruence.specs.Applications.{Application, no_application, alike, at_each_place, equal_at, agree, consistent}

@@ -1,10 +1,10 @@
 -- Congruence over a lawful theory is a lawful theory.
-use Rattle.std.specs.Prelude.{◌≡◌, ℕ, ◌+◌, ◌≤◌, min, Bool, true, false, cond, ◌&&◌, ◌⊎◌, List, [], ◌∷◌, ◌++◌, length, take, ℤ, ◌==◌, nat_lt, slice_index, refl}
+use Rattle.std.specs.Prelude.{◌≡◌, ℕ, ◌+◌, Bool, true, false, cond, ◌&&◌, ◌⊎◌, List, [], ◌∷◌, ◌++◌, length, take, ℤ, ◌==◌, nat_lt, slice_index, refl}
 use Rattle.std.proofs.Common.{sym, ◌∙◌, ap, subst, inl, inr, arith}
 use Rattle.std.proofs.lemmas.Bool.{and_parts, cond_both}
 use Rattle.faults.specs.declared.InputCause.{InputCause}
 use Rattle.faults.specs.declared.InputCause.TheVariants.{WrongLength, OutOfRange}
-use Rattle.faults.specs.declared.StateCause.TheVariants.{WrongPhase, Full}
+use Rattle.faults.specs.declared.StateCause.TheVariants.{Full}
 use Rattle.faults.specs.declared.TheoryFault.{TheoryFault}
 use Rattle.faults.specs.declared.TheoryFault.TheVariants as theory
 use Rattle.faults.specs.Causes.{theory_code, one_lower, raised}

@@ -1,20 +1,15 @@
 -- What a call does to what is held.
-use Rattle.std.proofs.Common.{◌≡◌, ℕ, true, false, not, ◌||◌, List, ℤ, Ok, Err, Result, sym, refl, ap, ◌∙◌, subst, arith}
-use Rattle.std.proofs.lemmas.Bool.{false≢true}
+use Rattle.std.proofs.Common.{◌≡◌, ℕ, true, Ok, Err, Result, sym, refl, ap, ◌∙◌, subst, arith}
 use Rattle.faults.specs.declared.SessionFault.{SessionFault}
 use Rattle.calculus.specs.Calls.{Call}
 use Rattle.calculus.specs.Kinds.{Kind, Lawful}
-use Rattle.calculus.specs.States.{Phase, State, is_drafting, is_analysing}
+use Rattle.calculus.specs.States.{State}
 use Rattle.calculus.specs.Steps.{Reply, step}
 use Rattle.calculus.proofs.Ruling.{rules_hold}
 use Rattle.session.specs.declared.Session.{Session}
 use Rattle.session.specs.Views.{back_of, view}
 use Rattle.driver.specs.declared.held.Held.{Held}
-use Rattle.driver.specs.declared.held.Held.TheVariants.{Nothing, Draft, Analysis}
-use Rattle.driver.specs.declared.orders.Order.{Order}
-use Rattle.driver.specs.declared.orders.Order.TheVariants as order
-use Rattle.driver.specs.Orders.{call_of}
-use Rattle.driver.specs.Holding.{held_in, taken_of, is_token_call, serves, Holds, Obeys, Advances, SamePhase}
+use Rattle.driver.specs.Holding.{held_in, taken_of, Holds, Obeys, Advances, SamePhase}
 
 -- what a spent token's answer says of the calculus' answer
 pub spent : {P : Type 0} (p : P) (o : Result Reply SessionFault) → Ok tt ≡ back_of p o → (r : Reply) × (o ≡ Ok r)

@@ -1,12 +1,12 @@
 -- Which phase a call leads to, and that a call out of its phase is refused.
-use Rattle.std.proofs.Common.{◌≡◌, ℕ, Bool, true, false, List, ℤ, Ok, Err, Result, sym, refl, ap, ◌∙◌, subst, arith}
+use Rattle.std.proofs.Common.{◌≡◌, ℕ, Bool, true, false, List, ℤ, Ok, Err, refl, ap}
 use Rattle.faults.specs.declared.StateCause.TheVariants.{WrongPhase}
 use Rattle.faults.specs.declared.SessionFault.{SessionFault}
 use Rattle.faults.specs.declared.SessionFault.TheVariants as session
 use Rattle.calculus.specs.Calls.{Call}
 use Rattle.calculus.specs.Calls.Call.{Counts, Declare, Admit, Rule, Seal, Lemma, Choose, Set, Propagate, Read, Conflict, Resolve, Jump, Concede, Claim, Abandon}
 use Rattle.calculus.specs.Kinds.{Kind}
-use Rattle.calculus.specs.States.{Phase, State, is_drafting, is_searching, is_analysing}
+use Rattle.calculus.specs.States.{Phase, State, is_drafting, is_analysing}
 use Rattle.calculus.specs.Steps.{Reply, Outcome, need, step}
 use Rattle.calculus.proofs.Stepping.{stepped}
 use Rattle.verdicts.proofs.Taking.{if_accepted}

@@ -1,18 +1,18 @@
 -- What a call of the session does, said of the order that it carries out.
-use Rattle.std.proofs.Common.{◌≡◌, ℕ, true, false, List, ℤ, Ok, Err, Result, sym, refl, ap, ◌∙◌, subst, Bor}
+use Rattle.std.proofs.Common.{◌≡◌, ℕ, true, List, ℤ, Ok, Err, Result, sym, refl, ap, ◌∙◌, subst, Bor}
 use Rattle.faults.specs.declared.StateCause.TheVariants.{WrongPhase}
 use Rattle.faults.specs.declared.SessionFault.{SessionFault}
 use Rattle.faults.specs.declared.SessionFault.TheVariants as session
 use Rattle.calculus.specs.Calls.{Call}
 use Rattle.calculus.specs.Kinds.{Kind}
 use Rattle.calculus.specs.States.{State}
-use Rattle.calculus.specs.Steps.{Outcome, step}
+use Rattle.calculus.specs.Steps.{Outcome}
 use Rattle.session.specs.declared.Session.{Session}
 use Rattle.session.specs.Views.{answer_of, view, Steps}
 use Rattle.driver.specs.declared.orders.Order.{Order}
 use Rattle.driver.specs.declared.orders.Order.TheVariants as order
 use Rattle.driver.specs.Orders.{call_of}
-use Rattle.driver.specs.Holding.{taken_of, is_token_call, serves, Obeys, NotServed, SamePhase}
+use Rattle.driver.specs.Holding.{taken_of, is_token_call, Obeys, NotServed, SamePhase}
 use Rattle.driver.proofs.Leading.{out_of_phase, plain_keeps}
 
 taken_answer : (r : Result (Unit {0}) SessionFault) → r ≡ taken_of (answer_of r)

@@ -1,5 +1,5 @@
 -- Records taken to a session.
-use Rattle.std.specs.Prelude.{ℕ, ◌≤◌, ◌⊎◌, List, length, Ok, Err, Result}
+use Rattle.std.specs.Prelude.{ℕ, ◌≤◌, ◌⊎◌, length, Ok, Err, Result}
 use Rattle.std.proofs.Common.{inl, inr}
 use Rattle.faults.specs.declared.InputCause.{InputCause}
 use Rattle.faults.specs.declared.SessionFault.{SessionFault}

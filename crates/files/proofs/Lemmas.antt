@@ -1,10 +1,9 @@
 -- A body that begins with a count: what follows the count is cut in two there.
-use Rattle.std.proofs.Common.{◌≡◌, ℕ, ◌-◌, ◌<◌, ◌≤◌, Bool, true, false, cond, leb, ◌⊎◌, List, [], ◌∷◌, length, get_or, take, drop, sym, refl, ap, ◌∙◌, inl, inr, arith}
+use Rattle.std.proofs.Common.{◌≡◌, ℕ, ◌-◌, ◌≤◌, leb, List, [], ◌∷◌, length, get_or, take, drop, sym, ap, ◌∙◌, inl, inr, arith}
 use Rattle.std.proofs.lemmas.List.{take_all}
 use Rattle.std.proofs.lemmas.Bool.{le-leb, cond-true}
-use Rattle.faults.specs.declared.InputCause.{InputCause}
 use Rattle.faults.specs.declared.InputCause.TheVariants.{WrongLength}
-use Rattle.calculus.specs.Calls.{Call, Lemma}
+use Rattle.calculus.specs.Calls.{Lemma}
 use Rattle.numerals.specs.Numbers.{signed_bytes}
 use Rattle.files.specs.Decoding.{counted}
 

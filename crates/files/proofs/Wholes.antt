@@ -1,13 +1,12 @@
 -- The laws of a whole file that is read.
-use Rattle.std.proofs.Common.{◌≡◌, ℕ, zero, suc, ◌+◌, ◌-◌, ◌<◌, ◌≤◌, Bool, true, false, cond, eqb, leb, ◌⊎◌, List, [], ◌∷◌, ◌++◌, length, get_or, take, drop, Some, None, Option, sym, refl, ap, ◌∙◌, subst, inl, inr, append_assoc, arith}
+use Rattle.std.proofs.Common.{◌≡◌, ℕ, zero, suc, ◌+◌, ◌<◌, ◌≤◌, cond, eqb, leb, ◌⊎◌, List, [], ◌∷◌, ◌++◌, length, take, drop, Some, None, Option, sym, refl, ap, ◌∙◌, subst, inl, inr, append_assoc, arith}
 use Rattle.std.proofs.lemmas.List.{drop-drop, get_or-drop, length-drop, nil_from_length}
 use Rattle.std.proofs.lemmas.Bool.{eqb-true, cond_both}
 use Rattle.faults.specs.declared.InputCause.{InputCause}
 use Rattle.faults.specs.declared.InputCause.TheVariants.{WrongVersion, FileTooLong}
-use Rattle.faults.specs.declared.FileFault.{FileFault}
 use Rattle.faults.specs.declared.FileFault.TheVariants.{Input}
 use Rattle.files.specs.declared.records.FileKind.{FileKind}
-use Rattle.files.specs.Records.{Entry, size, next_entry, most_bytes, opened, Reading, Ended, Stopped, Then, onward, reading, unless_refused, read_file}
+use Rattle.files.specs.Records.{Entry, size, next_entry, most_bytes, opened, Reading, Stopped, onward, reading, unless_refused, read_file}
 use Rattle.files.specs.Laws.{written, put_back, Ends, Rebuilds, InOrder, Parts}
 use Rattle.files.proofs.Told.{Bytes, Told, told}
 

@@ -3,7 +3,7 @@ use Rattle.std.specs.Prelude.{ℕ, ◌+◌, cond, ◌⊎◌, List, [], ◌∷◌
 use Rattle.std.proofs.Common.{inl, inr}
 use Rattle.faults.specs.declared.InputCause.{InputCause}
 use Rattle.faults.specs.declared.FileFault.{FileFault}
-use Rattle.faults.specs.declared.FileFault.TheVariants.{Input, Session}
+use Rattle.faults.specs.declared.FileFault.TheVariants.{Input}
 use Rattle.calculus.specs.Calls as call
 use Rattle.files.specs.declared.calls.Call.{Call}
 use Rattle.files.specs.declared.calls.Call.TheVariants as code

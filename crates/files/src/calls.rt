@@ -5,8 +5,8 @@ ghost use Rattle.files.specs.Decoding.{case_call, log_call, call_of};
 ghost use Rattle.files.specs.Views.{copied, copied_count, in_file, literals, viewed};
 
 use crate::records::{FileKind, Record};
-use numerals::{signed_byte, signed_word, unsigned_word};
 use faults::{FileFault, InputCause};
+use numerals::{signed_byte, signed_word, unsigned_word};
 
 // A part of a file that holds one literal in each byte.
 #[derive(Clone, Copy)]

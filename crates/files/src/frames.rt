@@ -4,8 +4,8 @@ ghost use Rattle.files.specs.Frames.{frame_view, framed};
 ghost use Rattle.files.specs.Views.{in_file};
 
 use crate::records::MOST_CASE_BYTES;
-use numerals::unsigned_word;
 use faults::{FileFault, InputCause};
+use numerals::unsigned_word;
 
 // The number of a theory, a case and its log, the last two as parts of the input.
 #[derive(Clone, Copy)]

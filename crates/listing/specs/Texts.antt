@@ -1,6 +1,5 @@
 -- The text of a refusal.
 use Rattle.std.specs.Prelude.{ℕ, List, ◌++◌, codes, decimal}
-use Rattle.faults.specs.declared.Code.{Code}
 use Rattle.faults.specs.Causes.{file_code}
 use Rattle.files.specs.declared.records.Stop.{Stop}
 

@@ -8,7 +8,6 @@ use Rattle.calculus.specs.declared.Judgement.{Judgement}
 use Rattle.calculus.specs.declared.Judgement.TheVariants.{Yes, No}
 use Rattle.calculus.specs.declared.Vouching.{Vouching}
 use Rattle.calculus.specs.declared.Vouching.TheVariants.{Vouched, Unvouched, Refused}
-use Rattle.calculus.specs.Kinds.{Kind}
 use Rattle.calculus.specs.Questions.{answered, left, says_admitted}
 use Rattle.piles.specs.Piles.{congruent_linear}
 

@@ -1,10 +1,9 @@
 -- A question within the limits is answered by what it means.
-use Rattle.std.proofs.Common.{◌≡◌, ℕ, ◌+◌, ◌<◌, ◌≤◌, Bool, true, false, ◌&&◌, eqb, ltb, leb, ◌⊎◌, List, [], ◌∷◌, map, length, get_or, ℤ, pos, sym, refl, ap, ◌∙◌, inl, inr, arith}
+use Rattle.std.proofs.Common.{◌≡◌, ℕ, ◌+◌, ◌<◌, ◌≤◌, Bool, true, false, ◌&&◌, ltb, leb, List, [], ◌∷◌, map, length, get_or, ℤ, sym, refl, ap, ◌∙◌, arith}
 use Rattle.std.specs.List.{range_with_len, AllByRecursion as All}
-use Rattle.std.proofs.lemmas.List.{length-map}
 use Rattle.std.proofs.lemmas.List.FromFn.{length-range_with_len, get_or-range_with_len, length-map-range_with_len}
 use Rattle.std.proofs.lemmas.Bool.{and_parts, and_from, ltb-true, lt-ltb, le-leb, eq-eqb, cond_both}
-use Rattle.calculus.specs.Lists.{every, highest}
+use Rattle.calculus.specs.Lists.{every}
 use Rattle.calculus.specs.Limits.{most_denominator, most_measures, most_numerator, within, sized}
 use Rattle.calculus.specs.Kinds.{Kind, Lawful}
 use Rattle.calculus.specs.Questions.{in_limits, says_mentioned, says_true}

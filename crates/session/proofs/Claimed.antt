@@ -1,5 +1,5 @@
 -- What a claim comes to when its tests are known.
-use Rattle.std.proofs.Common.{◌≡◌, ℕ, Bool, true, not, ◌||◌, List, [], ℤ, sym, ap, ◌∙◌}
+use Rattle.std.proofs.Common.{◌≡◌, ℕ, Bool, true, not, ◌||◌, List, [], ◌∙◌}
 use Rattle.std.specs.List.{range_with_len}
 use Rattle.std.proofs.lemmas.Bool.{cond-true}
 use Rattle.faults.specs.declared.StateCause.TheVariants.{WrongPhase, NoValue, RuleUnmet}
@@ -13,7 +13,7 @@ use Rattle.calculus.specs.Trails.{Entry, valued, numerators}
 use Rattle.calculus.specs.States.{State, Stored, is_searching, meets}
 use Rattle.calculus.specs.States.Phase.{Closed}
 use Rattle.calculus.specs.States.Verdict.{Possible}
-use Rattle.calculus.specs.Steps.{step, need, arranged, if_admitted, turned}
+use Rattle.calculus.specs.Steps.{step, arranged, if_admitted, turned}
 use Rattle.calculus.specs.Steps.Reply.{Handed}
 use Rattle.tables.specs.Keys.{tidy}
 use Rattle.readings.proofs.Asking.{numerators_limited}

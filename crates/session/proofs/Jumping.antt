@@ -1,5 +1,5 @@
 -- What a jump comes to when its tests are known.
-use Rattle.std.proofs.Common.{◌≡◌, ℕ, ◌-◌, Bool, true, false, cond, ◌&&◌, eqb, ltb, ℤ, Ok, Err, sym, ap, ◌∙◌}
+use Rattle.std.proofs.Common.{◌≡◌, ℕ, ◌-◌, true, false, cond, ◌&&◌, eqb, ltb, ℤ, Ok, Err, sym, ap, ◌∙◌}
 use Rattle.faults.specs.declared.InputCause.TheVariants.{BadLiteral}
 use Rattle.faults.specs.declared.StateCause.TheVariants.{WrongPhase, Full, Absent, NotResolvable, NotAllowed}
 use Rattle.faults.specs.declared.SessionFault.TheVariants as session

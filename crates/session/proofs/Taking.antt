@@ -1,5 +1,5 @@
 -- What set and resolve come to when their tests are known.
-use Rattle.std.proofs.Common.{◌≡◌, ℕ, Bool, true, false, cond, not, ◌&&◌, eqb, ltb, leb, List, length, ℤ, Ok, Err, sym, ap, ◌∙◌}
+use Rattle.std.proofs.Common.{◌≡◌, ℕ, true, false, not, ◌&&◌, eqb, ltb, leb, length, ℤ, Ok, Err, sym, ap, ◌∙◌}
 use Rattle.faults.specs.declared.InputCause.TheVariants.{OutOfRange}
 use Rattle.faults.specs.declared.StateCause.TheVariants.{WrongPhase, Absent, Taken, ContradictsTrail, NotResolvable, ResolventTooLong}
 use Rattle.faults.specs.declared.SessionFault.TheVariants as session
@@ -8,7 +8,7 @@ use Rattle.calculus.specs.Limits.{most_numerator, most_literals, within, sized}
 use Rattle.calculus.specs.Literals.{number}
 use Rattle.calculus.specs.Calls.Call.{Set, Resolve}
 use Rattle.calculus.specs.Kinds.{Kind}
-use Rattle.calculus.specs.Trails.{Entry, valued, enter_choice, reason}
+use Rattle.calculus.specs.Trails.{valued, enter_choice, reason}
 use Rattle.calculus.specs.Trails.Content.{Value}
 use Rattle.calculus.specs.States.{State, is_searching, is_analysing, clause}
 use Rattle.calculus.specs.States.Phase.{Analysing}

@@ -1,5 +1,5 @@
 -- What a session stands for after one of its tables is changed.
-use Rattle.std.proofs.Common.{◌≡◌, true, false, sym, refl, ap, ◌∙◌}
+use Rattle.std.proofs.Common.{◌≡◌, true, refl, ap}
 use Rattle.std.proofs.lemmas.Bool.{false≢true}
 use Rattle.calculus.specs.Arrangements.{Arrangement}
 use Rattle.calculus.specs.Kinds.{Kind}

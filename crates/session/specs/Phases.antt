@@ -1,5 +1,5 @@
 -- The phases of the code, and which calls serve in them.
-use Rattle.std.specs.Prelude.{◌≡◌, Bool, true, false, ◌||◌}
+use Rattle.std.specs.Prelude.{◌≡◌, Bool, ◌||◌}
 use Rattle.calculus.specs.Arrangements.{Arrangement}
 use Rattle.calculus.specs.States as states
 use Rattle.calculus.specs.States.{is_new, is_drafting, is_searching, is_analysing}

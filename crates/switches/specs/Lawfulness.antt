@@ -1,13 +1,13 @@
 -- The theory of switches only keeps the laws.
-use Rattle.std.specs.Prelude.{◌≡◌, ℕ, zero, suc, ◌<◌, ◌≤◌, Bool, true, false, cond, ◌⊎◌, List, [], ◌∷◌, ◌==◌, refl}
+use Rattle.std.specs.Prelude.{◌≡◌, ℕ, zero, suc, ◌<◌, ◌≤◌, Bool, true, false, ◌⊎◌, List, [], ◌∷◌, ◌==◌, refl}
 use Rattle.std.proofs.Common.{sym, ap, ◌∙◌, subst, inl, inr, arith}
 use Rattle.std.proofs.lemmas.Bool.{true≢false, ne_eqb, cond-false, cond_both}
-use Rattle.faults.specs.declared.InputCause.TheVariants.{WrongLength, OutOfRange}
+use Rattle.faults.specs.declared.InputCause.TheVariants.{OutOfRange}
 use Rattle.faults.specs.declared.StateCause.TheVariants.{WrongPhase}
 use Rattle.faults.specs.declared.TheoryFault.{TheoryFault}
 use Rattle.faults.specs.declared.TheoryFault.TheVariants as theory
 use Rattle.faults.specs.Causes.{theory_code}
-use Rattle.calculus.specs.Kinds.{Kind, Lawful, OnlyCounted, InPile}
+use Rattle.calculus.specs.Kinds.{Lawful, OnlyCounted, InPile}
 use Rattle.switches.specs.Switches.{unknown, none_counted, switches_only}
 
 never : {A B : Type 0} (f : TheoryFault) (n : A) → inl f ≡ inr n → B

@@ -1,7 +1,7 @@
 -- A loop that looks for the first entry that passes.
 use Rattle.std.proofs.Common.{◌≡◌, ℕ, ◌+◌, ◌<◌, ◌≤◌, Bool, true, false, cond, ◌||◌, List, length, get_or, drop, Some, None, sym, refl, ap, ◌∙◌}
 use Rattle.std.proofs.lemmas.List.{at_drop_more, at_drop_all}
-use Rattle.calculus.specs.Trails.{Content, Entry, entry_for, has_entry}
+use Rattle.calculus.specs.Trails.{Content, entry_for, has_entry}
 use Rattle.tables.specs.declared.entry as code
 use Rattle.tables.specs.Views.{entry_of, entries_of, Finds}
 

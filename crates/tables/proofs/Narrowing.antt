@@ -1,5 +1,5 @@
 -- At most one entry passes an exclusive test: a narrower test finds that one or none.
-use Rattle.std.proofs.Common.{◌≡◌, ℕ, Bool, true, false, cond, ◌||◌, ◌⊎◌, List, [], ◌∷◌, ℤ, pos, negsuc, neg_ℤ, nat_abs, Some, None, sym, refl, ap, ◌∙◌, subst, ⊎_elim, to_z-of_z, w8, SFits, to_z, of_z}
+use Rattle.std.proofs.Common.{◌≡◌, ℕ, Bool, true, false, cond, ◌||◌, List, [], ◌∷◌, ℤ, pos, negsuc, neg_ℤ, nat_abs, Some, None, sym, refl, ap, ◌∙◌, subst, ⊎_elim, to_z-of_z, w8, SFits, to_z, of_z}
 use Rattle.std.specs.List.{AllByRecursion as All}
 use Rattle.std.proofs.lemmas.Bool.{true≢false, or_parts, or_cases, or_from, cases_Bool, cond-true, cond-false}
 use Rattle.calculus.specs.Literals.{number}

@@ -1,8 +1,8 @@
 -- The theory of signs keeps the laws.
-use Rattle.std.proofs.Common.{◌≡◌, ℕ, zero, suc, ◌+◌, ◌-◌, ◌*◌, ◌<◌, ◌≤◌, Bool, true, false, cond, not, ◌&&◌, ◌||◌, eqb, ltb, leb, ◌⊎◌, List, [], ◌∷◌, ◌++◌, length, get_or, ℤ, pos, negsuc, ◌*ℤ◌, neg_ℤ, sym, refl, ap, ◌∙◌, subst, inl, inr, ⊎_elim, mul-pos, arith, length-append}
+use Rattle.std.proofs.Common.{◌≡◌, ℕ, zero, suc, ◌+◌, ◌-◌, ◌*◌, ◌<◌, ◌≤◌, Bool, true, false, cond, ◌&&◌, ◌||◌, eqb, ltb, leb, ◌⊎◌, List, [], ◌∷◌, length, get_or, ℤ, pos, negsuc, ◌*ℤ◌, neg_ℤ, sym, refl, ap, ◌∙◌, subst, inl, inr, ⊎_elim, mul-pos, arith, length-append}
 use lib.ListN.{get_or-append, get_or-eq_default}
 use lib.IntN.{pos-*ℤ-pos, negsuc-*ℤ-pos, zero-*ℤ}
-use Rattle.std.proofs.lemmas.Bool.{true≢false, and_parts, or_cases, or_left, or_right, leb-true, leb-false, le-leb, lt-leb, ltb-true, eqb-true, eq-eqb, ne_eqb, cases_lt, cases_Bool, cond-true, cond-false, cond_both, not-true}
+use Rattle.std.proofs.lemmas.Bool.{true≢false, and_parts, or_cases, or_left, or_right, le-leb, lt-leb, ltb-true, eqb-true, eq-eqb, ne_eqb, cases_lt, cond-true, cond-false, not-true}
 use Rattle.faults.specs.declared.InputCause.TheVariants.{WrongLength, OutOfRange}
 use Rattle.faults.specs.declared.StateCause.TheVariants.{WrongPhase}
 use Rattle.faults.specs.declared.TheoryFault.{TheoryFault}
@@ -13,9 +13,9 @@ use Rattle.calculus.specs.declared.Vouching.{Vouching}
 use Rattle.calculus.specs.declared.Vouching.TheVariants.{Vouched, Unvouched, Refused}
 use Rattle.calculus.specs.Lists.{every, some, nth}
 use Rattle.calculus.specs.Limits.{most_measures, within}
-use Rattle.calculus.specs.Literals.{number, signed}
+use Rattle.calculus.specs.Literals.{number}
 use Rattle.calculus.specs.Arrangements.{SameFraction}
-use Rattle.calculus.specs.Kinds.{Kind, Lawful, OnlyCounted, OneMore, Narrower, InPile, some_atom}
+use Rattle.calculus.specs.Kinds.{Lawful, OnlyCounted, OneMore, Narrower, InPile, some_atom}
 use Rattle.calculus.proofs.Tabling.{nth_absent}
 use Rattle.trials.specs.Signs as spec
 use Rattle.trials.specs.Signs.{Signs, Sign, sign, no_atom, atom, with_count, with_atom, with_signed, too_many, not_zero, judged, alike, affirms_sign, both_signs, signs}

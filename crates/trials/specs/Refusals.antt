@@ -1,5 +1,5 @@
 -- For every call, each cause that it can give, and which comes first where two meet.
-use Rattle.std.specs.Prelude.{ℕ, zero, suc, ◌+◌, Bool, true, false, List, [], ◌∷◌, ◌++◌, map, replicate, ℤ, pos, negsuc, Ok, Err, Result}
+use Rattle.std.specs.Prelude.{ℕ, List, [], ◌∷◌, ◌++◌, map, replicate, ℤ, pos, negsuc, Ok, Err, Result}
 use Rattle.std.specs.List.{range_with_len}
 use Rattle.faults.specs.declared.InputCause.{InputCause}
 use Rattle.faults.specs.declared.InputCause.TheVariants.{WrongLength, OutOfRange, BadLiteral, BadClause}
@@ -13,7 +13,7 @@ use Rattle.calculus.specs.Calls.Call.{Counts, Declare, Admit, Rule, Seal, Lemma,
 use Rattle.calculus.specs.Steps.{Reply}
 use Rattle.calculus.specs.Steps.Reply.{Done}
 use Rattle.trials.specs.Trials.{Answers}
-use Rattle.trials.specs.Runs.{four, clash, draft, zero_read, late_reading}
+use Rattle.trials.specs.Runs.{four, clash, draft, zero_read}
 
 abbrev pub input : InputCause → Result Reply SessionFault
 input c = Err (session.Input c)

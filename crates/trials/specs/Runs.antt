@@ -1,5 +1,5 @@
 -- Runs that reach every phase, every kind of entry, both cases of a jump and all three verdicts.
-use Rattle.std.specs.Prelude.{ℕ, Bool, true, false, List, [], ◌∷◌, ◌++◌, ℤ, pos, negsuc}
+use Rattle.std.specs.Prelude.{ℕ, true, false, List, [], ◌∷◌, ◌++◌, ℤ, pos, negsuc}
 use Rattle.calculus.specs.Calls.{Call}
 use Rattle.calculus.specs.Calls.Call.{Counts, Declare, Admit, Rule, Seal, Lemma, Choose, Set, Propagate, Read, Conflict, Resolve, Jump, Concede, Claim, Abandon}
 use Rattle.calculus.specs.Trails.{Entry, Origin}

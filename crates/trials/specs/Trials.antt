@@ -5,7 +5,7 @@ use Rattle.faults.specs.declared.SessionFault.{SessionFault}
 use Rattle.calculus.specs.Calls.{Call}
 use Rattle.calculus.specs.Kinds.{Kind}
 use Rattle.calculus.specs.Trails.{Entry}
-use Rattle.calculus.specs.States.{Phase, State}
+use Rattle.calculus.specs.States.{Phase}
 use Rattle.calculus.specs.Steps.{Reply, step, run}
 
 -- from a state that some calls lead to, what each of some other calls answers there

@@ -1,4 +1,4 @@
-use Rattle.std.proofs.Common.{◌≡◌, not, ◌||◌, sym, ap, ◌∙◌}
+use Rattle.std.proofs.Common.{not, ◌||◌, sym, ap, ◌∙◌}
 use Rattle.calculus.specs.Lists.{every}
 use Rattle.calculus.specs.States.{Stored, meets}
 use Rattle.tables.specs.Tables.{trail_of, stored_of}

@@ -1,4 +1,4 @@
-use Rattle.std.proofs.Common.{◌≡◌, Bool, get_or, ℤ, pos, sym, ap, ◌∙◌, w8, SFits, rules}
+use Rattle.std.proofs.Common.{Bool, get_or, ℤ, pos, sym, w8, SFits, rules}
 use Rattle.calculus.specs.Literals.{signed}
 use Rattle.calculus.specs.States.{holds}
 use Rattle.calculus.proofs.Looping.{some_stop, some_more, some_end}

@@ -1,4 +1,4 @@
-use Rattle.std.proofs.Common.{◌≡◌, sym, ap, ◌∙◌}
+use Rattle.std.proofs.Common.{sym, ap, ◌∙◌}
 use Rattle.calculus.specs.Lists.{every}
 use Rattle.calculus.specs.Trails.{Entry, stays_true}
 use Rattle.tables.specs.Views.{entry_of}

@@ -1,4 +1,4 @@
-use Rattle.std.proofs.Common.{◌≡◌, sym, ◌∙◌}
+use Rattle.std.proofs.Common.{sym}
 use Rattle.calculus.specs.Limits.{within}
 use Rattle.calculus.proofs.Looping.{every_stop, every_more, every_end}
 use Rattle.congruence.proofs.layer.are_measures.Goals as goal

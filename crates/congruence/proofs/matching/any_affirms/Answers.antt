@@ -1,4 +1,4 @@
-use Rattle.std.proofs.Common.{◌≡◌, Bool, get_or, ℤ, pos, sym, ap, ◌∙◌, to_z-of_z, w8, SFits, rules}
+use Rattle.std.proofs.Common.{Bool, get_or, ℤ, pos, sym, ap, ◌∙◌, to_z-of_z, w8, SFits, rules}
 use Rattle.calculus.proofs.Looping.{some_stop, some_more, some_end}
 use Rattle.congruence.specs.Congruences.{affirms_equal}
 use Rattle.congruence.proofs.matching.any_affirms.Goals as goal

@@ -1,4 +1,4 @@
-use Rattle.std.proofs.Common.{◌≡◌, ◌+◌, drop}
+use Rattle.std.proofs.Common.{◌≡◌, drop}
 use Rattle.calculus.specs.Kinds.{all_there}
 use Rattle.congruence.proofs.matching.are_there.Given as goal
 

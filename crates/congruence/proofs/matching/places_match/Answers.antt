@@ -1,4 +1,4 @@
-use Rattle.std.proofs.Common.{◌≡◌, ℕ, Bool, ◌||◌, eqb, length, sym, ◌∙◌, arith}
+use Rattle.std.proofs.Common.{◌≡◌, ◌||◌, eqb, length, sym, ◌∙◌, arith}
 use Rattle.calculus.specs.Lists.{some}
 use Rattle.congruence.specs.Congruences.{denies_equal}
 use Rattle.congruence.proofs.Placing.{place_skip, place_here, place_none, place_uneven}

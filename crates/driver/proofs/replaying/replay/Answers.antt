@@ -1,4 +1,4 @@
-use Rattle.std.proofs.Common.{◌≡◌, map, take, sym, ap, ◌∙◌, subst, arith, take_all}
+use Rattle.std.proofs.Common.{map, sym, ap, ◌∙◌, subst, arith, take_all}
 use Rattle.calculus.specs.Sound.{Guarantees}
 use Rattle.calculus.specs.Steps.{run}
 use Rattle.calculus.proofs.Soundness.{sound}

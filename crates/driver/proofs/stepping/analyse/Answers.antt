@@ -1,4 +1,4 @@
-use Rattle.std.proofs.Common.{◌≡◌, sym, refl, ap, ◌∙◌, to_z-of_z, w8, SFits, to_z, of_z, rules}
+use Rattle.std.proofs.Common.{sym, ap, ◌∙◌, to_z-of_z, w8, SFits, to_z, of_z, rules}
 use Rattle.calculus.specs.Calls.Call.{Resolve, Jump, Concede, Abandon}
 use Rattle.calculus.specs.Steps.{step}
 use Rattle.calculus.specs.Steps.Reply.{Done}

@@ -1,4 +1,4 @@
-use Rattle.std.proofs.Common.{◌≡◌, sym, refl, ap, ◌∙◌, rules}
+use Rattle.std.proofs.Common.{ap, ◌∙◌}
 use Rattle.calculus.specs.Calls.Call.{Declare, Rule, Seal}
 use Rattle.session.specs.Views.{view}
 use Rattle.calculus.specs.States.{State}

@@ -1,7 +1,6 @@
-use Rattle.std.proofs.Common.{◌≡◌, sym, refl, ap, ◌∙◌, rules}
+use Rattle.std.proofs.Common.{sym, ap}
 use Rattle.calculus.specs.Calls.Call.{Counts, Conflict, Claim, Abandon}
-use Rattle.calculus.specs.Steps.Reply.{Done, Handed}
-use Rattle.claims.specs.Views.{arrangement_of}
+use Rattle.calculus.specs.Steps.Reply.{Done}
 use Rattle.session.specs.Views.{view}
 use Rattle.driver.specs.declared.held.Held.TheVariants.{Nothing, Draft, Analysis}
 use Rattle.driver.specs.Orders.{call_of}

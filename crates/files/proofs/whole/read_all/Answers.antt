@@ -1,11 +1,10 @@
-use Rattle.std.proofs.Common.{◌≡◌, ℕ, ◌+◌, ◌<◌, ◌⊎◌, List, [], ◌∷◌, ◌++◌, map, get_or, Some, None, vec_items, Option, sym, refl, ap, ◌∙◌, subst, inl, inr, arith, rules}
+use Rattle.std.proofs.Common.{◌≡◌, ℕ, ◌+◌, List, [], ◌∷◌, ◌++◌, map, Some, None, vec_items, sym, ap, ◌∙◌, subst, inl, inr, arith, rules}
 use Rattle.std.proofs.lemmas.List.{map_push}
-use Rattle.faults.specs.declared.InputCause.{InputCause}
 use Rattle.faults.specs.declared.FileFault.{FileFault}
 use Rattle.files.specs.declared.records.FileKind.{FileKind}
 use Rattle.files.specs.declared.records.Record.{Record}
 use Rattle.files.specs.declared.records.Stop.{Stop}
-use Rattle.files.specs.Records.{Entry, opened, entry_at, place_after, count_after, Reading, Ended, Stopped, read_file}
+use Rattle.files.specs.Records.{Entry, opened, entry_at, place_after, count_after, Ended, Stopped, read_file}
 use Rattle.files.specs.Views.{in_file, entry_view, onto, ending}
 use Rattle.files.proofs.Told.{Bytes}
 use Rattle.files.proofs.Wholes.{carried}

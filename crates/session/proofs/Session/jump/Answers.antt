@@ -1,4 +1,4 @@
-use Rattle.std.proofs.Common.{◌≡◌, ap, ◌∙◌, to_z-of_z}
+use Rattle.std.proofs.Common.{ap, ◌∙◌, to_z-of_z}
 use Rattle.calculus.specs.Calls.Call.{Jump}
 use Rattle.calculus.specs.Steps.{step}
 use Rattle.session.specs.Views.{view, back_of}

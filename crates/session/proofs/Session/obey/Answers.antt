@@ -1,4 +1,4 @@
-use Rattle.std.proofs.Common.{◌≡◌, sym, ap, ◌∙◌, to_z-of_z, w8, w32, SFits, rules}
+use Rattle.std.proofs.Common.{sym, ap, ◌∙◌, to_z-of_z, w8, w32, SFits, rules}
 use Rattle.calculus.specs.Calls.Call.{Choose, Set, Propagate, Jump}
 use Rattle.calculus.specs.Steps.{step}
 use Rattle.session.specs.Orders.{call_of}

@@ -1,4 +1,4 @@
-use Rattle.std.proofs.Common.{◌≡◌, true, leb, length, Ok, sym, ap, ◌∙◌, subst, to_z-of_z, w8, SFits, to_z, of_z, rules}
+use Rattle.std.proofs.Common.{◌≡◌, true, leb, length, Ok, sym, ap, ◌∙◌, to_z-of_z, w8, SFits, to_z, of_z, rules}
 use Rattle.calculus.specs.Limits.{most_literals}
 use Rattle.calculus.specs.States.{is_analysing}
 use Rattle.calculus.specs.States.Phase.{Analysing}

@@ -1,9 +1,8 @@
-use Rattle.std.proofs.Common.{◌≡◌, true, ℤ, Ok, sym, ap, ◌∙◌, subst, to_z-of_z, w32, to_z, of_z}
+use Rattle.std.proofs.Common.{◌≡◌, true, Ok, sym, ap, ◌∙◌, to_z-of_z, w32, to_z, of_z}
 use Rattle.calculus.specs.Calls.Call.{Set}
 use Rattle.calculus.specs.States.{is_searching}
 use Rattle.calculus.specs.Steps.{step, bears, with_trail, arranged}
 use Rattle.calculus.specs.Steps.Reply.{Done}
-use Rattle.tables.specs.Tables.{trail_of}
 use Rattle.session.specs.Views.{tables_of, view}
 use Rattle.session.proofs.Needing.{told}
 use Rattle.session.proofs.Taking.{set_done}

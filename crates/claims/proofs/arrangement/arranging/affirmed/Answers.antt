@@ -1,4 +1,4 @@
-use Rattle.std.proofs.Common.{◌≡◌, ℕ, ◌+◌, ◌^◌, ◌<◌, Bool, List, [], ◌∷◌, ◌++◌, length, take, ℤ, pos, sym, ap, ◌∙◌, arith, w8, to_z}
+use Rattle.std.proofs.Common.{ℕ, ◌+◌, ◌<◌, Bool, [], ◌∷◌, ◌++◌, length, take, pos, sym, ap, ◌∙◌, arith, w8}
 use mir.Facts.{to_z_pos}
 use Rattle.std.proofs.lemmas.List.{length-set, take_more_set}
 use Rattle.std.proofs.lemmas.List.FromFn.{map-range_with_len_more}

@@ -1,4 +1,4 @@
-use Rattle.std.proofs.Common.{◌≡◌, length, drop}
+use Rattle.std.proofs.Common.{◌≡◌, drop}
 use Rattle.congruence.specs.Applications.{at_each_place, equal_at}
 use Rattle.congruence.proofs.application.applying.all_equal.Given as goal
 

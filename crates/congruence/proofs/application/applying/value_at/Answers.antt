@@ -1,4 +1,4 @@
-use Rattle.std.proofs.Common.{◌≡◌, ◌-◌, ◌<◌, get_or, ℤ, pos, sym, ◌∙◌, inl, inr, ⊎_elim, arith, to_z-of_z, w32, SFits, rules}
+use Rattle.std.proofs.Common.{◌-◌, ◌<◌, get_or, ℤ, pos, sym, ◌∙◌, inl, inr, ⊎_elim, arith, to_z-of_z, w32, SFits, rules}
 use Rattle.calculus.proofs.Tabling.{nth_none, nth_at}
 use Rattle.congruence.proofs.application.applying.value_at.Goals as goal
 

@@ -1,7 +1,7 @@
-use Rattle.std.proofs.Common.{◌≡◌, sym}
+use Rattle.std.proofs.Common.{sym}
 use Rattle.calculus.specs.Lists.{every}
 use Rattle.congruence.specs.Applications.{agree}
-use Rattle.congruence.specs.Views.{application_of, applications_of}
+use Rattle.congruence.specs.Views.{applications_of}
 use Rattle.congruence.proofs.Tables.{rows_more, rows_stop, rows_end}
 use Rattle.congruence.proofs.applications.Applications.are_consistent.Goals as goal
 

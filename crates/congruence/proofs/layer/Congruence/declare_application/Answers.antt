@@ -1,10 +1,10 @@
-use Rattle.std.proofs.Common.{◌≡◌, ◌+◌, ◌<◌, length, get_or, drop, sym, ap, ◌∙◌, inr, arith}
+use Rattle.std.proofs.Common.{◌<◌, length, drop, sym, ap, ◌∙◌, arith}
 use Rattle.std.proofs.lemmas.Bool.{lt-ltb, cond-true}
 use Rattle.calculus.specs.Questions.{answered, left}
 use Rattle.calculus.specs.Lists.{every}
 use Rattle.calculus.specs.Limits.{within}
 use Rattle.congruence.specs.Applications.{most_applications}
-use Rattle.congruence.specs.Congruences.{Congruences, congruence, application_taken, with_application}
+use Rattle.congruence.specs.Congruences.{Congruences, congruence}
 use Rattle.congruence.specs.Views.{application_of, applications_of, layer_model}
 use Rattle.congruence.proofs.Taking.{taken_so, drop_twice}
 use Rattle.congruence.proofs.layer.Congruence.declare_application.Goals as goal

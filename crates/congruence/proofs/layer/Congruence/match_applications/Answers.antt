@@ -1,4 +1,4 @@
-use Rattle.std.proofs.Common.{◌≡◌, cond, sym, ap, ◌∙◌, arith}
+use Rattle.std.proofs.Common.{cond, sym, ap, ◌∙◌, arith}
 use Rattle.calculus.specs.declared.Vouching.TheVariants.{Vouched, Unvouched}
 use Rattle.congruence.specs.Congruences.{Congruences}
 use Rattle.congruence.specs.Views.{application_of, layer_model}

@@ -1,4 +1,4 @@
-use Rattle.std.proofs.Common.{◌≡◌, sym, ap, ◌∙◌}
+use Rattle.std.proofs.Common.{sym, ap, ◌∙◌}
 use Rattle.congruence.specs.Congruences.{Congruences, raised_vouching, matched}
 use Rattle.congruence.specs.Views.{layer_model}
 use Rattle.congruence.proofs.Taking.{own_hint, other_hint}

@@ -1,4 +1,4 @@
-use Rattle.std.proofs.Common.{◌≡◌, ℕ, ◌≤◌, List, length, set, ℤ, Some, refl, ap, ◌∙◌, arith, w8, SFits, to_z, of_z, rules}
+use Rattle.std.proofs.Common.{List, set, ℤ, Some, refl, ap, ◌∙◌, arith, w8, SFits, to_z, of_z, rules}
 use Rattle.std.proofs.lemmas.Int.{to_z-of_z}
 use Rattle.files.proofs.Copies.{signed_length, one_more, fits_count, fits_after, short_count, short_after}
 use Rattle.files.proofs.calls.Literals.copy_to.Goals as goal

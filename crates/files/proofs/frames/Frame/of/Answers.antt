@@ -1,4 +1,4 @@
-use Rattle.std.proofs.Common.{ap, ◌∙◌, arith, rules}
+use Rattle.std.proofs.Common.{ap, rules}
 use Rattle.files.specs.Views.{in_file}
 use Rattle.files.proofs.Cuts.{framed_is}
 use Rattle.files.proofs.frames.Frame.of.Goals as goal

@@ -1,4 +1,4 @@
-use Rattle.std.proofs.Common.{◌+◌, ◌<◌, [], ◌∷◌, ◌++◌, length, get_or, take, ℤ, pos, sym, ap, ◌∙◌, arith, take_all, to_z-of_z, w8, SFits, rules}
+use Rattle.std.proofs.Common.{◌<◌, [], ◌∷◌, ◌++◌, length, get_or, take, ℤ, pos, sym, ap, ◌∙◌, arith, take_all, to_z-of_z, w8, SFits, rules}
 use Rattle.std.proofs.lemmas.List.{length-set, take_more_set, take_more}
 use Rattle.tables.proofs.clause.Clause.of_few.Goals as goal
 
