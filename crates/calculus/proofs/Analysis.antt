@@ -1,6 +1,6 @@
 -- Analysing a conflict: the open clause stays false and follows, and what a jump finds.
 use Rattle.std.proofs.Common.{◌≡◌, ℕ, ◌+◌, ◌<◌, ◌≤◌, Bool, true, false, not, ◌||◌, eqb, List, [], ◌∷◌, ◌++◌, length, ℤ, neg_ℤ, filter, sym, ap, ◌∙◌, subst, ⊎_elim, arith}
-use Rattle.std.specs.List.{AllByRecursion as All}
+use Rattle.std.specs.List.{AllByRecursion}
 use Rattle.std.proofs.ByRecursion.{All-weaker}
 use Rattle.std.proofs.lemmas.Bool.{true≢false, both_ways, or_cases, or_left, or_right, not-true, not_from_false, cases_Bool, cond_both}
 use Rattle.calculus.specs.Lists.{every, some, highest}
@@ -24,12 +24,12 @@ use Rattle.calculus.proofs.Entering.{clause_of, level_bound}
 abbrev pub Opened : (K : Kind) → K.Model → ℕ → List Stored → List Entry → List ℤ → Type 0
 Opened K m w rows t ls = (every (false_on t) ls ≡ true) × (every (λ l. within (w + K.atoms m) (number l)) ls ≡ true) × ((a : Arrangement) → Ok K m w rows a → meets K m w a ls ≡ true)
 
-pub literal_on_of : (P : ℤ → Type 0) (n : ℕ) (ls : List ℤ) → All P ls → some (λ k. eqb (number k) n) ls ≡ true → P (literal_on n ls)
+pub literal_on_of : (P : ℤ → Type 0) (n : ℕ) (ls : List ℤ) → AllByRecursion P ls → some (λ k. eqb (number k) n) ls ≡ true → P (literal_on n ls)
 literal_on_of P n [] h s = absurd (true≢false (sym s))
 literal_on_of P n (l ∷ ls) h s =
     cond_both (eqb (number l) n) l (literal_on n ls) P (λ _. h.0) (λ q. literal_on_of P n ls h.1 (⊎_elim (λ y. absurd (true≢false (sym y ∙ q))) (λ y. y) (or_cases (eqb (number l) n) (some (λ k. eqb (number k) n) ls) s)))
 
-pub literal_of : (P : ℤ → Type 0) (l : ℤ) (ls : List ℤ) → All P ls → holds_literal l ls ≡ true → P l
+pub literal_of : (P : ℤ → Type 0) (l : ℤ) (ls : List ℤ) → AllByRecursion P ls → holds_literal l ls ≡ true → P l
 literal_of P l ls h = some_of (λ k. same k l) ls (P l) (All-weaker P (λ k. same k l ≡ true → P l) (λ k p q. subst P (same_true k l q) p) ls h)
 
 -- resolution is sound
@@ -64,7 +64,7 @@ resolves f l ls rs p a b =
     in_A : (k : ℤ) → holds_literal k A ≡ true → t k ≡ true → some t A ≡ true
     in_A k h z = literal_of (λ q. t q ≡ true → some t A ≡ true) k A (all_some t A) h z
 
-    in_rest : All (λ k. t k ≡ true → some t C ≡ true) R
+    in_rest : AllByRecursion (λ k. t k ≡ true → some t C ≡ true) R
     in_rest = All-weaker (λ k. not (holds_literal k A) ≡ true → t k ≡ true → some t B ≡ true) (λ k. t k ≡ true → some t C ≡ true)
         (λ k g z. ⊎_elim (λ q. some_left t A B (in_A k q z)) (λ q. some_right t A B (g (not_from_false (holds_literal k A) q) z)) (cases_Bool (holds_literal k A)))
         R (kept_back (λ k. not (holds_literal k A)) (λ k. t k ≡ true → some t B ≡ true) R (all_some t B))

@@ -1,6 +1,6 @@
 -- Every state that the calls lead to keeps its bounds, its reasons and its levels.
 use Rattle.std.proofs.Common.{◌≡◌, ℕ, ◌+◌, ◌-◌, ◌≤◌, Bool, true, false, not, ◌||◌, eqb, ltb, leb, List, [], ◌∷◌, ◌++◌, length, ℤ, neg_ℤ, sym, refl, ap, ◌∙◌, subst, ⊎_elim, append_assoc, arith, length-append}
-use Rattle.std.specs.List.{AllByRecursion as All}
+use Rattle.std.specs.List.{AllByRecursion}
 use Rattle.std.proofs.ByRecursion.{All-push, All-weaker}
 use Rattle.std.proofs.lemmas.Bool.{true≢false, both_ways, and_parts, and_from, or_cases, or_left, not-true, cases_Bool, cases_lt, ltb-true, leb-true, cond-true, cond-false, cond_both}
 use Rattle.calculus.specs.Lists.{every, some}
@@ -94,11 +94,11 @@ record Tame (K : Kind) (s : State K) : Type 0 where
   pub few_numbers : s.numbers ≤ most_numbers
   pub few_measures : K.measures s.model ≤ most_measures
   pub few_clauses : length s.clauses ≤ most_clauses
-  pub each_clause : All (λ r. clause_like r.literals ≡ true) s.clauses
+  pub each_clause : AllByRecursion (λ r. clause_like r.literals ≡ true) s.clauses
   pub open_clause : clause_like s.open_clause ≡ true
   pub no_open : is_analysing s.phase ≡ false → s.open_clause ≡ []
   pub denominator : within most_denominator s.denominator ≡ true
-  pub values : All (λ e. SizedValue e.content) s.trail
+  pub values : AllByRecursion (λ e. SizedValue e.content) s.trail
   pub reasons : AllReasoned s.clauses [] s.trail
 
 -- a number that is new has no phase but new
@@ -317,7 +317,7 @@ module _ (K : Kind) (L : Lawful K) where
     few_numbers = t.few_numbers;
     few_measures = t.few_measures;
     few_clauses = t.few_clauses;
-    each_clause = both (λ r. clause_like r.literals ≡ true) (λ r. every (λ l. within s.numbers (number l)) r.literals ≡ true) (λ r. ClauseUpTo s.numbers r.literals) (λ r x y. (x, y)) s.clauses t.each_clause (subst (λ n. All (λ r. every (λ l. within n (number l)) r.literals ≡ true) s.clauses) (sym h.counted) h.core.rows_known);
+    each_clause = both (λ r. clause_like r.literals ≡ true) (λ r. every (λ l. within s.numbers (number l)) r.literals ≡ true) (λ r. ClauseUpTo s.numbers r.literals) (λ r x y. (x, y)) s.clauses t.each_clause (subst (λ n. AllByRecursion (λ r. every (λ l. within n (number l)) r.literals ≡ true) s.clauses) (sym h.counted) h.core.rows_known);
     open_clause = (t.open_clause, ⊎_elim (λ y. subst (λ n. every (λ l. within n (number l)) s.open_clause ≡ true) (sym h.counted) (opened K L s h y).1) (λ y. subst (λ ls. every (λ l. within s.numbers (number l)) ls ≡ true) (sym (t.no_open y)) refl) (cases_Bool (is_analysing s.phase)));
     no_open = t.no_open;
     denominator = t.denominator;
@@ -338,5 +338,5 @@ module _ (K : Kind) (L : Lawful K) where
       t : Tame K s
       t = after_tame (fresh K) (fresh_held K L) fresh_tame cs
 
-      known : All (λ e. Known s.numbers (K.measures s.model) e.content) s.trail
-      known = subst (λ n. All (λ e. Known n (K.measures s.model) e.content) s.trail) (sym h.counted) h.core.known
+      known : AllByRecursion (λ e. Known s.numbers (K.measures s.model) e.content) s.trail
+      known = subst (λ n. AllByRecursion (λ e. Known n (K.measures s.model) e.content) s.trail) (sym h.counted) h.core.known

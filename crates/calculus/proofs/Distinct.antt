@@ -1,7 +1,7 @@
 -- A resolvent's literals are on different numbers.
 use Rattle.std.proofs.Common.{◌≡◌, zero, suc, Bool, true, false, not, eqb, ◌⊎◌, List, [], ◌∷◌, ◌++◌, ℤ, pos, negsuc, neg_ℤ, filter, sym, refl, ap, ◌∙◌, subst, inl, inr, ⊎_elim, arith}
 use lib.IntN.{neg_ℤ-neg_ℤ}
-use Rattle.std.specs.List.{AllByRecursion as All}
+use Rattle.std.specs.List.{AllByRecursion}
 use Rattle.std.proofs.ByRecursion.{All-weaker, all_kept_by}
 use Rattle.std.proofs.lemmas.Bool.{true≢false, and_parts, and_from, or_left, or_right, not-true, not_from_false, cases_Bool, eqb-true, cond_both}
 use Rattle.calculus.specs.Lists.{every}
@@ -23,7 +23,7 @@ every_both : (p : ℤ → Bool) (xs ys : List ℤ) → every p xs ≡ true → e
 every_both p [] ys h k = k
 every_both p (a ∷ xs) ys h k = let q = and_parts (p a) (every p xs) h in and_from (p a) (every p (xs ++ ys)) q.0 (every_both p xs ys q.1 k)
 
-distinct_append : (xs ys : List ℤ) → distinct xs ≡ true → distinct ys ≡ true → All (λ a. every (λ k. not (eqb (number k) (number a))) ys ≡ true) xs → distinct (xs ++ ys) ≡ true
+distinct_append : (xs ys : List ℤ) → distinct xs ≡ true → distinct ys ≡ true → AllByRecursion (λ a. every (λ k. not (eqb (number k) (number a))) ys ≡ true) xs → distinct (xs ++ ys) ≡ true
 distinct_append [] ys h k x = k
 distinct_append (a ∷ xs) ys h k x =
     let q = and_parts (every (λ i. not (eqb (number i) (number a))) xs) (distinct xs) h in
@@ -37,7 +37,7 @@ one_number (pos (suc m)) (negsuc n) e = let z : m ≡ n = omega arith in inr (ap
 one_number (negsuc m) (pos n) e = inr (ap pos (sym e))
 one_number (negsuc m) (negsuc n) e = let z : m ≡ n = omega arith in inl (ap negsuc z)
 
-held_itself : (xs : List ℤ) → All (λ a. (k : ℤ) → same a k ≡ true → holds_literal k xs ≡ true) xs
+held_itself : (xs : List ℤ) → AllByRecursion (λ a. (k : ℤ) → same a k ≡ true → holds_literal k xs ≡ true) xs
 held_itself [] = tt
 held_itself (a ∷ xs) = (
   λ k e. or_left (same a k) (holds_literal k xs) e,
@@ -46,7 +46,7 @@ held_itself (a ∷ xs) = (
 
 pub resolvent_distinct : (t : List Entry) → ((l : ℤ) → on_trail l t ≡ true → on_trail (neg_ℤ l) t ≡ true → ⊥)
     → (l : ℤ) (ls because : List ℤ) → distinct ls ≡ true → distinct because ≡ true
-    → All (λ k. false_on t k ≡ true) ls → All (λ k. not (same k (neg_ℤ l)) ≡ true → false_on t k ≡ true) because
+    → AllByRecursion (λ k. false_on t k ≡ true) ls → AllByRecursion (λ k. not (same k (neg_ℤ l)) ≡ true → false_on t k ≡ true) because
     → distinct (resolvent l ls because) ≡ true
 resolvent_distinct t no-two l ls because dl dr fl fr =
     distinct_append A B (distinct_kept (λ k. not (same k l)) ls dl) (distinct_kept (λ k. not (holds_literal k A)) R (distinct_kept (λ k. not (same k (neg_ℤ l))) because dr))

@@ -1,6 +1,6 @@
 -- What enters the trail: a choice, a value, a literal with its reason, a reading.
 use Rattle.std.proofs.Common.{◌≡◌, ℕ, zero, suc, ◌+◌, ◌-◌, ◌<◌, ◌≤◌, Bool, true, false, cond, not, ◌||◌, eqb, List, [], ◌∷◌, length, ℤ, pos, negsuc, neg_ℤ, sym, refl, ◌∙◌, subst, ⊎_elim, arith}
-use Rattle.std.specs.List.{AllByRecursion as All}
+use Rattle.std.specs.List.{AllByRecursion}
 use Rattle.std.proofs.ByRecursion.{All-push, All-weaker, All-get_or}
 use Rattle.std.proofs.lemmas.Bool.{true≢false, both_ways, or_cases, or_left, or_right, not-true, not_from_false, cases_Bool, cond_both}
 use Rattle.calculus.specs.Lists.{every}
@@ -21,21 +21,21 @@ use Rattle.calculus.proofs.Invariant.{Sensible, Core, all_kept, agreed, entry_co
 pub entered_valued : (t : List Entry) (l : ℤ) (o : Origin) (k i : ℕ) → valued i (enter t (Literal l o) k) ≡ true → valued i t ≡ true
 entered_valued t l o k i h = ⊎_elim (λ x. x) (λ x. absurd (true≢false (sym x))) (some_cases (λ e. values i e.content) t (record { content = Literal l o; level = k } ∷ []) h)
 
-off_number : (t : List Entry) (l : ℤ) (o : Origin) → taken (number l) t ≡ false → All (λ f. clash f.content (Literal l o) ≡ false) t
+off_number : (t : List Entry) (l : ℤ) (o : Origin) → taken (number l) t ≡ false → AllByRecursion (λ f. clash f.content (Literal l o) ≡ false) t
 off_number t l o h = All-weaker (λ f. concerns (number l) f.content ≡ true → ⊥) (λ f. clash f.content (Literal l o) ≡ false) (λ f. off f.content) t (none_all (λ e. concerns (number l) e.content) t (λ y. true≢false (sym y ∙ h)))
   where
     off : (c : Content) → (concerns (number l) c ≡ true → ⊥) → clash c (Literal l o) ≡ false
     off (Value j x) n = refl
     off (Literal k p) n = ⊎_elim (λ y. absurd (n y)) (λ y. y) (cases_Bool (eqb (number k) (number l)))
 
-off_measure : (t : List Entry) (j : ℕ) (x : ℤ) → valued j t ≡ false → All (λ f. clash f.content (Value j x) ≡ false) t
+off_measure : (t : List Entry) (j : ℕ) (x : ℤ) → valued j t ≡ false → AllByRecursion (λ f. clash f.content (Value j x) ≡ false) t
 off_measure t j x h = All-weaker (λ f. values j f.content ≡ true → ⊥) (λ f. clash f.content (Value j x) ≡ false) (λ f. off f.content) t (none_all (λ e. values j e.content) t (λ y. true≢false (sym y ∙ h)))
   where
     off : (c : Content) → (values j c ≡ true → ⊥) → clash c (Value j x) ≡ false
     off (Value i y) n = ⊎_elim (λ z. absurd (n z)) (λ z. z) (cases_Bool (eqb i j))
     off (Literal k p) n = refl
 
-pub level_bound : (p : Content → Bool) (n : ℕ) (t : List Entry) → All (λ e. e.level ≤ n) t → (entry_for p t).level ≤ n
+pub level_bound : (p : Content → Bool) (n : ℕ) (t : List Entry) → AllByRecursion (λ e. e.level ≤ n) t → (entry_for p t).level ≤ n
 level_bound p n [] h = omega arith
 level_bound p n (e ∷ t) h = cond_both (p e.content) e (entry_for p t) (λ f. f.level ≤ n) (λ _. h.0) (λ _. level_bound p n t h.1)
 
@@ -46,13 +46,13 @@ made (suc n) f h =
     let P : ℤ → Type 0 = λ l. (number l ≡ suc n) × (signed l f ≡ true) in
     cond_both (f (suc n)) (pos (suc n)) (negsuc n) P (λ e. (refl, e)) (λ e. (refl, not_from_false (f (suc n)) e))
 
-pub clause_of : (P : List ℤ → Type 0) (rows : List Stored) (c : ℕ) → within (length rows) c ≡ true → All (λ r. P r.literals) rows → P (clause rows c)
+pub clause_of : (P : List ℤ → Type 0) (rows : List Stored) (c : ℕ) → within (length rows) c ≡ true → AllByRecursion (λ r. P r.literals) rows → P (clause rows c)
 clause_of P rows c h k = let b = within_true (length rows) c h in let b0 = b.0 in let b1 = b.1 in All-get_or (λ r. P r.literals) rows (c - 1) (record { literals = []; rule = false }) (omega arith) k
 
 module _ (K : Kind) (L : Lawful K) (m : K.Model) (w d : ℕ) (rows : List Stored) (t : List Entry) (h : Core K m w d rows t) where
   -- a literal that enters leaves what is readable as it is
   literal_sensible : (l : ℤ) (o : Origin) (k : ℕ) → within (w + K.atoms m) (number l) ≡ true → taken (number l) t ≡ false → (readable K m w t (number l) ≡ true → by_values K m w d t l ≡ true)
-      → All (λ e. Sensible K m w d (enter t (Literal l o) k) e.content) (enter t (Literal l o) k)
+      → AllByRecursion (λ e. Sensible K m w d (enter t (Literal l o) k) e.content) (enter t (Literal l o) k)
   literal_sensible l o k kn off new =
       All-push (λ e. Sensible K m w d u e.content) t (record { content = Literal l o; level = k })
       (All-weaker (λ e. Sensible K m w d t e.content) (λ e. Sensible K m w d u e.content) (λ e. old e.content) t h.sensible) (old (Literal l o) new)
@@ -60,7 +60,7 @@ module _ (K : Kind) (L : Lawful K) (m : K.Model) (w d : ℕ) (rows : List Stored
       u : List Entry
       u = enter t (Literal l o) k
 
-      given : All (λ e. Given (numerators K m u) d d e.content) t
+      given : AllByRecursion (λ e. Given (numerators K m u) d d e.content) t
       given = front (λ e. Given (numerators K m u) d d e.content) t (record { content = Literal l o; level = k })
           (gives_own K m w (w + K.atoms m) d u (apart_push t (record { content = Literal l o; level = k }) h.apart (off_number t l o off))
           (All-push (λ e. Known (w + K.atoms m) (K.measures m) e.content) t (record { content = Literal l o; level = k }) h.known kn))
@@ -100,7 +100,7 @@ module _ (K : Kind) (L : Lawful K) (m : K.Model) (w d : ℕ) (rows : List Stored
       (literal_sensible l (Propagated c) (choices t) kn off (λ r. absurd (n r)))
       (λ a ok g.
       unit_true K m w d a t
-      (subst (λ v. All (λ e. Keeps K m w d a e.content) v) (up_to_whole (choices t) t h.levels)
+      (subst (λ v. AllByRecursion (λ e. Keeps K m w d a e.content) v) (up_to_whole (choices t) t h.levels)
       (all_kept K m w d rows t h a ok (choices t) (front (λ e. choice e.content ≡ true → e.level ≤ choices t → Keeps K m w d a e.content) t (record { content = Literal l (Propagated c); level = choices t }) g)))
       l (w + K.atoms m) (clause rows c) un
       (clause_of (λ ls. every (λ q. within (w + K.atoms m) (number q)) ls ≡ true) rows c there h.rows_known)
@@ -131,7 +131,7 @@ module _ (K : Kind) (L : Lawful K) (m : K.Model) (w d : ℕ) (rows : List Stored
       u : List Entry
       u = enter_choice t (Value j x)
 
-      given : All (λ f. Given (numerators K m u) d d f.content) t
+      given : AllByRecursion (λ f. Given (numerators K m u) d d f.content) t
       given = front (λ f. Given (numerators K m u) d d f.content) t e
           (gives_own K m w (w + K.atoms m) d u (apart_push t e h.apart (off_measure t j x off)) (All-push (λ f. Known (w + K.atoms m) (K.measures m) f.content) t e h.known kn))
 

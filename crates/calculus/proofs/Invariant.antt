@@ -1,7 +1,7 @@
 -- What keeps the guarantees: the invariant, and what it is worth after a clause, an entry, a jump, or a new model.
 use Rattle.std.proofs.Common.{◌≡◌, ℕ, ◌+◌, ◌-◌, ◌<◌, ◌≤◌, Bool, true, false, cond, ◌||◌, ltb, leb, List, [], ◌∷◌, ◌++◌, length, ℤ, neg_ℤ, sym, refl, ap, ◌∙◌, subst, ⊎_elim, arith, length-append}
 use lib.ListN.{get_or-append}
-use Rattle.std.specs.List.{AllByRecursion as All}
+use Rattle.std.specs.List.{AllByRecursion}
 use Rattle.std.proofs.ByRecursion.{All-push, All-weaker}
 use Rattle.std.proofs.lemmas.Bool.{true≢false, and_from, or_cases, or_left, or_right, cases_Bool, lt-ltb, leb-true, le-leb, cond_both}
 use Rattle.calculus.specs.declared.Judgement.TheVariants.{Yes}
@@ -25,11 +25,11 @@ use Rattle.calculus.proofs.Meaning.{Known, Given, readable_more, gives_own, by_v
 abbrev pub Ok : (K : Kind) → K.Model → ℕ → List Stored → Arrangement → Type 0
 Ok K m w rows a =
     ((length a.switches ≡ w) × (length a.numerators ≡ K.measures m) × (0 < a.denominator)) × (K.admitted m a.numerators a.denominator ≡ Yes)
-    × All (λ r. r.rule ≡ true → meets K m w a r.literals ≡ true) rows
+    × AllByRecursion (λ r. r.rule ≡ true → meets K m w a r.literals ≡ true) rows
 
 -- it agrees with the choices up to a level
 abbrev pub Agrees : (K : Kind) → K.Model → ℕ → ℕ → Arrangement → List Entry → ℕ → Type 0
-Agrees K m w d a t k = All (λ e. choice e.content ≡ true → e.level ≤ k → Keeps K m w d a e.content) t
+Agrees K m w d a t k = AllByRecursion (λ e. choice e.content ≡ true → e.level ≤ k → Keeps K m w d a e.content) t
 
 -- why an entry stands at its level: what is not read was not readable there, what was read is so first there, a reason's other literals are false there
 abbrev pub Placed : (K : Kind) → K.Model → ℕ → List Stored → List Entry → Content → ℕ → Type 0
@@ -45,22 +45,22 @@ Sensible K m w d t (Literal l o) = readable K m w t (number l) ≡ true → by_v
 
 pub record Core (K : Kind) (m : K.Model) (w d : ℕ) (rows : List Stored) (t : List Entry) : Type 0 where
   pub positive : 0 < d
-  pub rows_known : All (λ r. every (λ l. within (w + K.atoms m) (number l)) r.literals ≡ true) rows
-  pub follow : (a : Arrangement) → Ok K m w rows a → All (λ r. meets K m w a r.literals ≡ true) rows
-  pub trail : (a : Arrangement) → Ok K m w rows a → All (λ e. Agrees K m w d a t e.level → Keeps K m w d a e.content) t
-  pub known : All (λ e. Known (w + K.atoms m) (K.measures m) e.content) t
+  pub rows_known : AllByRecursion (λ r. every (λ l. within (w + K.atoms m) (number l)) r.literals ≡ true) rows
+  pub follow : (a : Arrangement) → Ok K m w rows a → AllByRecursion (λ r. meets K m w a r.literals ≡ true) rows
+  pub trail : (a : Arrangement) → Ok K m w rows a → AllByRecursion (λ e. Agrees K m w d a t e.level → Keeps K m w d a e.content) t
+  pub known : AllByRecursion (λ e. Known (w + K.atoms m) (K.measures m) e.content) t
   pub apart : Apart t
-  pub levels : All (λ e. e.level ≤ choices t) t
+  pub levels : AllByRecursion (λ e. e.level ≤ choices t) t
   pub numbered : Numbered 0 t
-  pub placed : All (λ e. Placed K m w rows t e.content e.level) t
-  pub sensible : All (λ e. Sensible K m w d t e.content) t
+  pub placed : AllByRecursion (λ e. Placed K m w rows t e.content e.level) t
+  pub sensible : AllByRecursion (λ e. Sensible K m w d t e.content) t
 
 module _ (K : Kind) (m : K.Model) (w d : ℕ) where
   pub agrees_lower : (a : Arrangement) (t : List Entry) (j k : ℕ) → j ≤ k → Agrees K m w d a t k → Agrees K m w d a t j
   agrees_lower a t j k l h = All-weaker (λ e. choice e.content ≡ true → e.level ≤ k → Keeps K m w d a e.content) (λ e. choice e.content ≡ true → e.level ≤ j → Keeps K m w d a e.content) (λ e f y z. f y (omega arith)) t h
 
   -- under agreement up to a level, all of that part is kept
-  pub all_kept : (rows : List Stored) (t : List Entry) → Core K m w d rows t → (a : Arrangement) → Ok K m w rows a → (k : ℕ) → Agrees K m w d a t k → All (λ e. Keeps K m w d a e.content) (up_to k t)
+  pub all_kept : (rows : List Stored) (t : List Entry) → Core K m w d rows t → (a : Arrangement) → Ok K m w rows a → (k : ℕ) → Agrees K m w d a t k → AllByRecursion (λ e. Keeps K m w d a e.content) (up_to k t)
   all_kept rows t h a ok k g =
       up_to_all (λ e. Keeps K m w d a e.content) k t
       (All-weaker (λ e. Agrees K m w d a t e.level → Keeps K m w d a e.content) (λ e. e.level ≤ k → Keeps K m w d a e.content) (λ e f l. f (agrees_lower a t e.level k l g)) t (h.trail a ok))
@@ -69,7 +69,7 @@ module _ (K : Kind) (m : K.Model) (w d : ℕ) where
   given_kept a (Value j x) h = h refl
   given_kept a (Literal l o) h = tt
 
-  pub agreed : (a : Arrangement) (t : List Entry) (k : ℕ) → Agrees K m w d a t k → All (λ e. Given a.numerators a.denominator d e.content) (up_to k t)
+  pub agreed : (a : Arrangement) (t : List Entry) (k : ℕ) → Agrees K m w d a t k → AllByRecursion (λ e. Given a.numerators a.denominator d e.content) (up_to k t)
   agreed a t k g =
       up_to_all (λ e. Given a.numerators a.denominator d e.content) k t
       (All-weaker (λ e. choice e.content ≡ true → e.level ≤ k → Keeps K m w d a e.content) (λ e. e.level ≤ k → Given a.numerators a.denominator d e.content) (λ e f l. given_kept a e.content (λ y. f y l)) t g)
@@ -156,7 +156,7 @@ module _ (K : Kind) (m : K.Model) (w d : ℕ) where
       count : choices (up_to k t) ≡ k
       count = let z = (numbered_up_to 0 k t (omega arith) h.numbered).1 (omega arith) in omega arith
 
-      given : All (λ e. Given (numerators K m t) d d e.content) (up_to k t)
+      given : AllByRecursion (λ e. Given (numerators K m t) d d e.content) (up_to k t)
       given = up_to_weaken (λ e. Given (numerators K m t) d d e.content) k t (gives_own K m w (w + K.atoms m) d t h.apart h.known)
 
       sense : (c : Content) → Sensible K m w d t c → Sensible K m w d (up_to k t) c
@@ -178,11 +178,11 @@ late_valued t c k j i late v =
 module _ (K : Kind) (m : K.Model) (w d : ℕ) where
   pub entry_core : (rows : List Stored) (t : List Entry) (c : Content) (k : ℕ) → Core K m w d rows t
       → Known (w + K.atoms m) (K.measures m) c
-      → All (λ f. clash f.content c ≡ false) t
+      → AllByRecursion (λ f. clash f.content c ≡ false) t
       → (choice c ≡ true → k ≡ choices t + 1) → (choice c ≡ false → k ≤ choices t)
       → ((n : ℕ) → values n c ≡ true → choices t < k)
       → Placed K m w rows (enter t c k) c k
-      → All (λ e. Sensible K m w d (enter t c k) e.content) (enter t c k)
+      → AllByRecursion (λ e. Sensible K m w d (enter t c k) e.content) (enter t c k)
       → ((a : Arrangement) → Ok K m w rows a → Agrees K m w d a (enter t c k) k → Keeps K m w d a c)
       → Core K m w d rows (enter t c k)
   entry_core rows t c k h kn cl ch un late pl se new = record {

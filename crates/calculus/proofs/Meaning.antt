@@ -1,6 +1,6 @@
 -- What readable atoms mean: the values that an atom mentions decide it.
 use Rattle.std.proofs.Common.{◌≡◌, ℕ, zero, suc, ◌-◌, ◌<◌, ◌≤◌, Bool, true, false, cond, not, ◌||◌, ltb, leb, List, ℤ, pos, ◌*ℤ◌, neg_ℤ, sym, refl, ap, ◌∙◌, subst, ⊎_elim, arith}
-use Rattle.std.specs.List.{range_with_len, AllByRecursion as All}
+use Rattle.std.specs.List.{range_with_len, AllByRecursion}
 use Rattle.std.proofs.lemmas.List.FromFn.{length-map-range_with_len, get_or-map-range_with_len}
 use Rattle.std.proofs.lemmas.Bool.{true≢false, both_ways, and_parts, and_from, or_cases, or_left, or_right, not-true, not_from_false, cases_Bool, ltb-true, lt-ltb, lt-leb, eqb-true, eq-eqb, cond-true, cond-false, cond_both}
 use Rattle.calculus.specs.Lists.{every, nth}
@@ -55,7 +55,7 @@ module _ (K : Kind) (m : K.Model) (w : ℕ) where
   whole t d p = (length-map-range_with_len (λ i. value i t) 1 (K.measures m), p)
 
   -- a trail's numerators give each of its values
-  pub gives_own : (n d : ℕ) (t : List Entry) → Apart t → All (λ e. Known n (K.measures m) e.content) t → All (λ e. Given (numerators K m t) d d e.content) t
+  pub gives_own : (n d : ℕ) (t : List Entry) → Apart t → AllByRecursion (λ e. Known n (K.measures m) e.content) t → AllByRecursion (λ e. Given (numerators K m t) d d e.content) t
   gives_own n d t ap' kn =
       both (λ e. (p : Content → Bool) → Exclusive p → p e.content ≡ true → entry_for p t ≡ e) (λ e. Known n (K.measures m) e.content) (λ e. Given (numerators K m t) d d e.content)
       (λ e. own e.content e.level) t (first t ap') kn
@@ -84,7 +84,7 @@ module _ (K : Kind) (m : K.Model) (w : ℕ) where
 
   module _ (L : Lawful K) where
     -- whatever gives the values of a trail agrees with it on what is readable
-    pub truth_of : (xs : List ℤ) (e d : ℕ) (t : List Entry) (n : ℕ) → Whole K m xs e → 0 < d → All (λ f. Given xs e d f.content) t → readable K m w t n ≡ true → K.truth m (n - w) xs e ≡ K.truth m (n - w) (numerators K m t) d
+    pub truth_of : (xs : List ℤ) (e d : ℕ) (t : List Entry) (n : ℕ) → Whole K m xs e → 0 < d → AllByRecursion (λ f. Given xs e d f.content) t → readable K m w t n ≡ true → K.truth m (n - w) xs e ≡ K.truth m (n - w) (numerators K m t) d
     truth_of xs e d t n wh p g r =
         let q = readable_parts t n r in
         L.local m (n - w) xs (numerators K m t) e d wh (whole t d p)
@@ -93,11 +93,11 @@ module _ (K : Kind) (m : K.Model) (w : ℕ) where
         subst (λ y. SameFraction (nth (pos 0) xs j) e y d) (sym (numerators_at t j a b)) (given_at xs e d j (entry_for (values j) t).content f.1 f.0))
 
     -- one trail's values give those of another: they agree on what is readable there
-    pub by_values_moved : (d : ℕ) (t u : List Entry) (l : ℤ) → 0 < d → All (λ f. Given (numerators K m u) d d f.content) t → readable K m w t (number l) ≡ true → by_values K m w d u l ≡ by_values K m w d t l
+    pub by_values_moved : (d : ℕ) (t u : List Entry) (l : ℤ) → 0 < d → AllByRecursion (λ f. Given (numerators K m u) d d f.content) t → readable K m w t (number l) ≡ true → by_values K m w d u l ≡ by_values K m w d t l
     by_values_moved d t u l p g r = signed_ap l (λ n. K.truth m (n - w) (numerators K m u) d) (λ n. K.truth m (n - w) (numerators K m t) d) (truth_of (numerators K m u) d d t (number l) (whole u d p) p g r)
 
     -- an arrangement that gives the values meets a literal as they make it
-    pub kept_reading : (a : Arrangement) (d : ℕ) (t : List Entry) (l : ℤ) → Whole K m a.numerators a.denominator → 0 < d → All (λ f. Given a.numerators a.denominator d f.content) t → readable K m w t (number l) ≡ true → signed l (holds K m w a) ≡ by_values K m w d t l
+    pub kept_reading : (a : Arrangement) (d : ℕ) (t : List Entry) (l : ℤ) → Whole K m a.numerators a.denominator → 0 < d → AllByRecursion (λ f. Given a.numerators a.denominator d f.content) t → readable K m w t (number l) ≡ true → signed l (holds K m w a) ≡ by_values K m w d t l
     kept_reading a d t l wh p g r =
         let q = readable_parts t (number l) r in
         signed_ap l (holds K m w a) (λ n. K.truth m (n - w) (numerators K m t) d)
@@ -105,7 +105,7 @@ module _ (K : Kind) (m : K.Model) (w : ℕ) where
         ∙ truth_of a.numerators a.denominator d t (number l) wh p g r)
 
   -- an arrangement that keeps what is on a trail
-  module _ (d : ℕ) (a : Arrangement) (t : List Entry) (kept : All (λ e. Keeps K m w d a e.content) t) where
+  module _ (d : ℕ) (a : Arrangement) (t : List Entry) (kept : AllByRecursion (λ e. Keeps K m w d a e.content) t) where
     affirmed : (l : ℤ) (c : Content) → affirms l c ≡ true → Keeps K m w d a c → signed l (holds K m w a) ≡ true
     affirmed l (Value j x) h k = absurd (true≢false (sym h))
     affirmed l (Literal k o) h g = subst (λ i. signed i (holds K m w a) ≡ true) (same_true k l h) g

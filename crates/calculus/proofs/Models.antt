@@ -1,6 +1,6 @@
 -- A new model: what is said of the old atoms stays.
 use Rattle.std.proofs.Common.{◌≡◌, ℕ, ◌+◌, ◌-◌, ◌<◌, ◌≤◌, true, false, cond, not, ◌&&◌, ◌||◌, ltb, leb, ◌⊎◌, List, [], ◌∷◌, map, ℤ, sym, refl, ap, ◌∙◌, subst, inl, inr, ⊎_elim, arith}
-use Rattle.std.specs.List.{range_with_len, AllByRecursion as All}
+use Rattle.std.specs.List.{range_with_len, AllByRecursion}
 use Rattle.std.proofs.ByRecursion.{All-weaker}
 use Rattle.std.proofs.lemmas.Bool.{and_parts, and_from, and_left, lt-ltb, le-leb, ltb-true, leb-false, cases_Bool, cases_lt, cond-true}
 use Rattle.faults.specs.declared.TheoryFault.{TheoryFault}
@@ -86,7 +86,7 @@ module _ (K : Kind) (m n : K.Model) (E : Extends K m n) (w : ℕ) where
       let p = and_parts (within (w + K.atoms m) (number l)) (every (λ k. within (w + K.atoms m) (number k)) ls) h in
       ap (λ b. b || meets K n w a ls) (literal_kept a l p.0) ∙ ap (λ b. signed l (holds K m w a) || b) (meets_kept a ls p.1)
 
-  ok_back : (rows : List Stored) (a : Arrangement) → All (λ r. every (λ l. within (w + K.atoms m) (number l)) r.literals ≡ true) rows → Ok K n w rows a → Ok K m w rows a
+  ok_back : (rows : List Stored) (a : Arrangement) → AllByRecursion (λ r. every (λ l. within (w + K.atoms m) (number l)) r.literals ≡ true) rows → Ok K n w rows a → Ok K m w rows a
   ok_back rows a kn h =
       let fit = (h.0.1 ∙ E.measures) in (
         (h.0.0, fit, h.0.2),
@@ -103,7 +103,7 @@ module _ (K : Kind) (m n : K.Model) (E : Extends K m n) (w : ℕ) where
   keeps_back d a (Value j x) kn h = h
   keeps_back d a (Literal l o) kn h = sym (literal_kept a l kn) ∙ h
 
-  agrees_back : (d : ℕ) (a : Arrangement) (t : List Entry) (k : ℕ) → All (λ e. Known (w + K.atoms m) (K.measures m) e.content) t → Agrees K n w d a t k → Agrees K m w d a t k
+  agrees_back : (d : ℕ) (a : Arrangement) (t : List Entry) (k : ℕ) → AllByRecursion (λ e. Known (w + K.atoms m) (K.measures m) e.content) t → Agrees K n w d a t k → Agrees K m w d a t k
   agrees_back d a t k kn h =
       both (λ e. Known (w + K.atoms m) (K.measures m) e.content) (λ e. choice e.content ≡ true → e.level ≤ k → Keeps K n w d a e.content) (λ e. choice e.content ≡ true → e.level ≤ k → Keeps K m w d a e.content)
       (λ e q f y z. keeps_back d a e.content q (f y z)) t kn h

@@ -1,6 +1,6 @@
 -- A trail is no longer than there are numbers and measures.
 use Rattle.std.proofs.Common.{◌≡◌, ℕ, zero, suc, ◌+◌, ◌≤◌, Bool, true, false, not, eqb, ltb, leb, List, [], ◌∷◌, length, filter, sym, refl, ap, ◌∙◌, ⊎_elim, arith}
-use Rattle.std.specs.List.{AllByRecursion as All}
+use Rattle.std.specs.List.{AllByRecursion}
 use Rattle.std.proofs.ByRecursion.{All-weaker, all_kept_by}
 use Rattle.std.proofs.lemmas.Bool.{true≢false, and_from, not-true, not_from_false, cases_Bool, lt-ltb, le-leb, eqb-false, cond-true, cond-false, cond_both}
 use Rattle.calculus.specs.Literals.{number}
@@ -15,7 +15,7 @@ apart_kept : (p : Entry → Bool) (t : List Entry) → Apart t → Apart (filter
 apart_kept p [] h = tt
 apart_kept p (e ∷ t) h = cond_both (p e) (e ∷ filter p t) (filter p t) Apart (λ q. (all_kept_by p (λ f. clash e.content f.content ≡ false) t h.0, apart_kept p t h.1)) (λ q. apart_kept p t h.1)
 
-kept_whole : (p : Entry → Bool) (t : List Entry) → All (λ e. p e ≡ true) t → filter p t ≡ t
+kept_whole : (p : Entry → Bool) (t : List Entry) → AllByRecursion (λ e. p e ≡ true) t → filter p t ≡ t
 kept_whole p [] h = refl
 kept_whole p (e ∷ t) h = cond-true (p e) (e ∷ filter p t) (filter p t) h.0 ∙ ap (λ u. e ∷ u) (kept_whole p t h.1)
 
@@ -47,7 +47,7 @@ none_known : (c : Content) → Known 0 0 c → ⊥
 none_known (Value j x) k = let b = within_true 0 j k in let b0 = b.0 in let b1 = b.1 in omega arith
 none_known (Literal l o) k = let b = within_true 0 (number l) k in let b0 = b.0 in let b1 = b.1 in omega arith
 
-values_room : (t : ℕ) (u : List Entry) → Apart u → All (λ e. Known 0 t e.content) u → length u ≤ t
+values_room : (t : ℕ) (u : List Entry) → Apart u → AllByRecursion (λ e. Known 0 t e.content) u → length u ≤ t
 values_room zero [] a k = omega arith
 values_room zero (e ∷ u) a k = absurd (none_known e.content k.0)
 values_room (suc t) u a k =
@@ -57,7 +57,7 @@ values_room (suc t) u a k =
     (kept_all (λ e. not (values (suc t) e.content)) (λ e. Known 0 t e.content) u (All-weaker (λ e. Known 0 (suc t) e.content) (λ e. not (values (suc t) e.content) ≡ true → Known 0 t e.content) (λ e. fewer_measures t e.content) u k)) in
     omega arith
 
-pub room : (n t : ℕ) (u : List Entry) → Apart u → All (λ e. Known n t e.content) u → length u ≤ n + t
+pub room : (n t : ℕ) (u : List Entry) → Apart u → AllByRecursion (λ e. Known n t e.content) u → length u ≤ n + t
 room zero t u a k = let z = values_room t u a k in omega arith
 room (suc n) t u a k =
     let v = filter (λ e. not (concerns (suc n) e.content)) u in
@@ -71,7 +71,7 @@ pub choices_room : (u : List Entry) → choices u ≤ length u
 choices_room [] = omega arith
 choices_room (e ∷ u) = let z = choices_room u in cond_both (choice e.content) 1 0 (λ k. k + choices u ≤ length (e ∷ u)) (λ _. omega arith) (λ _. omega arith)
 
-none_kept : (p : Entry → Bool) (t : List Entry) → All (λ e. p e ≡ false) t → filter p t ≡ []
+none_kept : (p : Entry → Bool) (t : List Entry) → AllByRecursion (λ e. p e ≡ false) t → filter p t ≡ []
 none_kept p [] h = refl
 none_kept p (e ∷ t) h = cond-false (p e) (e ∷ filter p t) (filter p t) h.0 ∙ none_kept p t h.1
 

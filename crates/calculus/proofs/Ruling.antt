@@ -1,7 +1,7 @@
 -- The sentences on what the calls do follow from their definitions.
 use Rattle.std.proofs.Common.{◌≡◌, ℕ, ◌+◌, ◌-◌, ◌<◌, ◌≤◌, true, eqb, ltb, ◌⊎◌, length, Ok, Err, Result, sym, refl, ap, subst, inl, inr, arith}
 use Rattle.std.proofs.lemmas.Bool.{and_parts, ltb-true, eqb-true}
-use Rattle.std.specs.List.{AllByRecursion as All}
+use Rattle.std.specs.List.{AllByRecursion}
 use Rattle.faults.specs.declared.SessionFault.{SessionFault}
 use Rattle.calculus.specs.declared.Judgement.TheVariants.{Yes}
 use Rattle.calculus.specs.declared.Vouching.TheVariants.{Vouched}
@@ -68,7 +68,7 @@ module _ (K : Kind) where
   claim_judges s r = if_taken s Claim r Judged (λ _ _ rs y e. (cc, rules_met K s.model s.switches (arranged K s) s.clauses rs, y))
     where
       Judged : State K → Type 0
-      Judged _ = (r ≡ Handed (arranged K s)) × All (λ c. c.rule ≡ true → meets K s.model s.switches (arranged K s) c.literals ≡ true) s.clauses
+      Judged _ = (r ≡ Handed (arranged K s)) × AllByRecursion (λ c. c.rule ≡ true → meets K s.model s.switches (arranged K s) c.literals ≡ true) s.clauses
           × (K.admitted s.model (arranged K s).numerators (arranged K s).denominator ≡ Yes)
 
   jump_lands : Lawful K → JumpLands K

@@ -1,6 +1,6 @@
 -- Every state that the calls lead to keeps the guarantees.
 use Rattle.std.proofs.Common.{◌≡◌, ℕ, zero, suc, ◌+◌, ◌-◌, ◌<◌, ◌≤◌, Bool, true, false, cond, not, ◌||◌, eqb, ltb, leb, List, [], ◌∷◌, ◌++◌, length, get_or, ℤ, pos, neg_ℤ, sym, refl, ap, ◌∙◌, subst, subst₂, ⊎_elim, arith, length-append}
-use Rattle.std.specs.List.{AllByRecursion as All}
+use Rattle.std.specs.List.{AllByRecursion}
 use Rattle.std.proofs.ByRecursion.{All-weaker}
 use Rattle.std.proofs.lemmas.List.FromFn.{length-map-range_with_len}
 use Rattle.std.proofs.lemmas.Bool.{true≢false, both_ways, and_parts, and_from, or_cases, or_left, or_right, not-true, ltb-true, lt-ltb, le-leb, eqb-true, cond-false, cond_both}
@@ -123,7 +123,7 @@ vouched_met K m w a (l ∷ ls) h =
     (or_cases (cond (leb (number l) w) false (signed l (λ n. K.truth m (n - w) a.numerators a.denominator))) (some_atom K m w a.numerators a.denominator ls) h)
 
 -- each stored clause is no rule or met, so each rule is met
-pub rules_met : (K : Kind) (m : K.Model) (w : ℕ) (a : Arrangement) (rows : List Stored) → every (λ r. not r.rule || meets K m w a r.literals) rows ≡ true → All (λ r. r.rule ≡ true → meets K m w a r.literals ≡ true) rows
+pub rules_met : (K : Kind) (m : K.Model) (w : ℕ) (a : Arrangement) (rows : List Stored) → every (λ r. not r.rule || meets K m w a r.literals) rows ≡ true → AllByRecursion (λ r. r.rule ≡ true → meets K m w a r.literals ≡ true) rows
 rules_met K m w a rows rs =
     All-weaker (λ r. (not r.rule || meets K m w a r.literals) ≡ true) (λ r. r.rule ≡ true → meets K m w a r.literals ≡ true)
     (λ r x g. ⊎_elim (λ z. absurd (both_ways r.rule (not-true r.rule z) g)) (λ z. z) (or_cases (not r.rule) (meets K m w a r.literals) x))
@@ -327,7 +327,7 @@ module _ (K : Kind) (L : Lawful K) where
     trail_follows = λ a ok k g. All-weaker (λ e. Agrees K m w d a t e.level → Keeps K m w d a e.content) (λ e. e.level ≤ k → Keeps K m w d a e.content) (λ e f l. f (agrees_lower K m w d a t e.level k l g)) t (h.core.trail a ok);
     no_denial = λ l p q.
         let U : Entry → Type 0 = λ e. Known (w + K.atoms m) (K.measures m) e.content × ((p : Content → Bool) → Exclusive p → p e.content ≡ true → entry_for p t ≡ e) in
-        let us : All U t = both (λ e. Known (w + K.atoms m) (K.measures m) e.content) (λ e. (p : Content → Bool) → Exclusive p → p e.content ≡ true → entry_for p t ≡ e) U (λ e x y. (x, y)) t h.core.known (first t h.core.apart) in
+        let us : AllByRecursion U t = both (λ e. Known (w + K.atoms m) (K.measures m) e.content) (λ e. (p : Content → Bool) → Exclusive p → p e.content ≡ true → entry_for p t ≡ e) U (λ e x y. (x, y)) t h.core.known (first t h.core.apart) in
         let x = found U (affirms l) t us p in
         let y = found U (affirms (neg_ℤ l)) t us q in
         let ex = x.0.1 (concerns (number l)) (concerns_exclusive (number l)) (affirms_concerns l (entry_for (affirms l) t).content x.1) in

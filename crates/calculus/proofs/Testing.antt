@@ -1,29 +1,29 @@
 -- Tests over lists.
 use Rattle.std.proofs.Common.{◌≡◌, ℕ, zero, suc, ◌+◌, ◌<◌, ◌≤◌, max, Bool, true, not, ltb, leb, ◌⊎◌, List, [], ◌∷◌, ◌++◌, ℤ, pos, negsuc, neg_ℤ, filter, sym, refl, ap, ◌∙◌, inl, inr, ⊎_elim, arith}
-use Rattle.std.specs.List.{range_with_len, AllByRecursion as All}
+use Rattle.std.specs.List.{range_with_len, AllByRecursion}
 use Rattle.std.proofs.ByRecursion.{All-weaker}
 use Rattle.std.proofs.lemmas.Bool.{true≢false, and_parts, and_from, or_cases, or_left, or_right, not-true, cases_eq, ltb-true, leb-true, eqb-true, eq-eqb, cond_both}
 use Rattle.calculus.specs.Lists.{every, some, highest}
 use Rattle.calculus.specs.Literals.{same, number, signed}
 use Rattle.calculus.specs.Limits.{within}
 
-pub both : {X : Type 0} (P Q R : X → Type 0) → ((x : X) → P x → Q x → R x) → (xs : List X) → All P xs → All Q xs → All R xs
+pub both : {X : Type 0} (P Q R : X → Type 0) → ((x : X) → P x → Q x → R x) → (xs : List X) → AllByRecursion P xs → AllByRecursion Q xs → AllByRecursion R xs
 both P Q R f [] p q = tt
 both P Q R f (x ∷ xs) p q = (f x p.0 q.0, both P Q R f xs p.1 q.1)
 
-pub front : {X : Type 0} (P : X → Type 0) (xs : List X) (x : X) → All P (xs ++ x ∷ []) → All P xs
+pub front : {X : Type 0} (P : X → Type 0) (xs : List X) (x : X) → AllByRecursion P (xs ++ x ∷ []) → AllByRecursion P xs
 front P [] x h = tt
 front P (y ∷ xs) x h = (h.0, front P xs x h.1)
 
-pub last : {X : Type 0} (P : X → Type 0) (xs : List X) (x : X) → All P (xs ++ x ∷ []) → P x
+pub last : {X : Type 0} (P : X → Type 0) (xs : List X) (x : X) → AllByRecursion P (xs ++ x ∷ []) → P x
 last P [] x h = h.0
 last P (y ∷ xs) x h = last P xs x h.1
 
-pub every_all : {X : Type 0} (p : X → Bool) (xs : List X) → every p xs ≡ true → All (λ x. p x ≡ true) xs
+pub every_all : {X : Type 0} (p : X → Bool) (xs : List X) → every p xs ≡ true → AllByRecursion (λ x. p x ≡ true) xs
 every_all p [] h = tt
 every_all p (x ∷ xs) h = let q = and_parts (p x) (every p xs) h in (q.0, every_all p xs q.1)
 
-pub all_every : {X : Type 0} (p : X → Bool) (xs : List X) → All (λ x. p x ≡ true) xs → every p xs ≡ true
+pub all_every : {X : Type 0} (p : X → Bool) (xs : List X) → AllByRecursion (λ x. p x ≡ true) xs → every p xs ≡ true
 all_every p [] h = refl
 all_every p (x ∷ xs) h = and_from (p x) (every p xs) h.0 (all_every p xs h.1)
 
@@ -44,27 +44,27 @@ some_cases p [] ys h = inr h
 some_cases p (x ∷ xs) ys h = ⊎_elim (λ a. inl (or_left (p x) (some p xs) a)) (λ b. ⊎_elim (λ c. inl (or_right (p x) (some p xs) c)) (λ c. inr c) (some_cases p xs ys b)) (or_cases (p x) (some p (xs ++ ys)) h)
 
 -- none passes: each fails
-pub none_all : {X : Type 0} (p : X → Bool) (xs : List X) → (some p xs ≡ true → ⊥) → All (λ x. p x ≡ true → ⊥) xs
+pub none_all : {X : Type 0} (p : X → Bool) (xs : List X) → (some p xs ≡ true → ⊥) → AllByRecursion (λ x. p x ≡ true → ⊥) xs
 none_all p [] h = tt
 none_all p (x ∷ xs) h = (λ e. h (or_left (p x) (some p xs) e), none_all p xs (λ e. h (or_right (p x) (some p xs) e)))
 
 -- what holds of each element that passes, where one does
-pub some_of : {X : Type 0} (p : X → Bool) (xs : List X) (P : Type 0) → All (λ x. p x ≡ true → P) xs → some p xs ≡ true → P
+pub some_of : {X : Type 0} (p : X → Bool) (xs : List X) (P : Type 0) → AllByRecursion (λ x. p x ≡ true → P) xs → some p xs ≡ true → P
 some_of p [] P h s = absurd (true≢false (sym s))
 some_of p (x ∷ xs) P h s = ⊎_elim (λ a. h.0 a) (λ b. some_of p xs P h.1 b) (or_cases (p x) (some p xs) s)
 
-pub all_some : {X : Type 0} (p : X → Bool) (xs : List X) → All (λ x. p x ≡ true → some p xs ≡ true) xs
+pub all_some : {X : Type 0} (p : X → Bool) (xs : List X) → AllByRecursion (λ x. p x ≡ true → some p xs ≡ true) xs
 all_some p [] = tt
 all_some p (x ∷ xs) = (λ e. or_left (p x) (some p xs) e, All-weaker (λ y. p y ≡ true → some p xs ≡ true) (λ y. p y ≡ true → some p (x ∷ xs) ≡ true) (λ y f e. or_right (p x) (some p xs) (f e)) xs (all_some p xs))
 
-pub kept_all : {X : Type 0} (p : X → Bool) (P : X → Type 0) (xs : List X) → All (λ x. p x ≡ true → P x) xs → All P (filter p xs)
+pub kept_all : {X : Type 0} (p : X → Bool) (P : X → Type 0) (xs : List X) → AllByRecursion (λ x. p x ≡ true → P x) xs → AllByRecursion P (filter p xs)
 kept_all p P [] h = tt
-kept_all p P (x ∷ xs) h = cond_both (p x) (x ∷ filter p xs) (filter p xs) (All P) (λ e. (h.0 e, kept_all p P xs h.1)) (λ e. kept_all p P xs h.1)
+kept_all p P (x ∷ xs) h = cond_both (p x) (x ∷ filter p xs) (filter p xs) (AllByRecursion P) (λ e. (h.0 e, kept_all p P xs h.1)) (λ e. kept_all p P xs h.1)
 
-pub kept_back : {X : Type 0} (p : X → Bool) (P : X → Type 0) (xs : List X) → All P (filter p xs) → All (λ x. p x ≡ true → P x) xs
+pub kept_back : {X : Type 0} (p : X → Bool) (P : X → Type 0) (xs : List X) → AllByRecursion P (filter p xs) → AllByRecursion (λ x. p x ≡ true → P x) xs
 kept_back p P [] h = tt
 kept_back p P (x ∷ xs) h =
-    cond_both (p x) (x ∷ filter p xs) (filter p xs) (λ u. All P u → All (λ y. p y ≡ true → P y) (x ∷ xs))
+    cond_both (p x) (x ∷ filter p xs) (filter p xs) (λ u. AllByRecursion P u → AllByRecursion (λ y. p y ≡ true → P y) (x ∷ xs))
     (λ e k. (λ _. k.0, kept_back p P xs k.1))
     (λ e k. (λ f. absurd (true≢false (sym f ∙ e)), kept_back p P xs k)) h
 
@@ -87,7 +87,7 @@ counted_at f a zero j l u = absurd (omega arith)
 counted_at f a (suc n) j l u =
     ⊎_elim (λ e. let q = ap f e in omega arith) (λ ne. let q = counted_at f (a + 1) n j (omega arith) (omega arith) in omega arith) (cases_eq a j)
 
-pub highest_above : {X : Type 0} (f : X → ℕ) (xs : List X) → All (λ x. f x ≤ highest f xs) xs
+pub highest_above : {X : Type 0} (f : X → ℕ) (xs : List X) → AllByRecursion (λ x. f x ≤ highest f xs) xs
 highest_above f [] = tt
 highest_above f (x ∷ xs) = (omega arith, All-weaker (λ y. f y ≤ highest f xs) (λ y. f y ≤ max (f x) (highest f xs)) (λ y h. omega arith) xs (highest_above f xs))
 

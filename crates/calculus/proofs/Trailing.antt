@@ -1,6 +1,6 @@
 -- What a trail says: its first entries, its levels, its choices.
 use Rattle.std.proofs.Common.{◌≡◌, ℕ, ◌+◌, ◌<◌, ◌≤◌, Bool, true, false, cond, eqb, leb, List, [], ◌∷◌, ◌++◌, ℤ, neg_ℤ, sym, refl, ap, ◌∙◌, subst, ⊎_elim, add_assoc, arith}
-use Rattle.std.specs.List.{AllByRecursion as All}
+use Rattle.std.specs.List.{AllByRecursion}
 use Rattle.std.proofs.ByRecursion.{All-push, All-weaker}
 use Rattle.std.proofs.lemmas.Bool.{true≢false, or_cases, or_left, or_right, cases_Bool, leb-true, leb-false, le-leb, lt-leb, eqb-true, eq-eqb, cond-true, cond-false, cond_both}
 use Rattle.calculus.specs.Literals.{number}
@@ -18,7 +18,7 @@ clash (Literal k o) (Literal l p) = eqb (number k) (number l)
 
 abbrev pub Apart : List Entry → Type 0
 Apart [] = Unit {0}
-Apart (e ∷ t) = All (λ f. clash e.content f.content ≡ false) t × Apart t
+Apart (e ∷ t) = AllByRecursion (λ f. clash e.content f.content ≡ false) t × Apart t
 
 -- no two contents that do not clash pass the test
 abbrev pub Exclusive : (Content → Bool) → Type 0
@@ -45,14 +45,14 @@ denies_concerns l (Value j x) h = h
 denies_concerns l (Literal k o) h = eq-eqb (number k) (number l) (ap number (same_true k (neg_ℤ l) h) ∙ number_neg l)
 
 -- the first entry that passes: what holds of each entry holds of it
-pub found : (Q : Entry → Type 0) (p : Content → Bool) (t : List Entry) → All Q t → has_entry p t ≡ true → Q (entry_for p t) × (p (entry_for p t).content ≡ true)
+pub found : (Q : Entry → Type 0) (p : Content → Bool) (t : List Entry) → AllByRecursion Q t → has_entry p t ≡ true → Q (entry_for p t) × (p (entry_for p t).content ≡ true)
 found Q p [] h s = absurd (true≢false (sym s))
 found Q p (e ∷ t) h s =
     let R : Entry → Type 0 = λ f. Q f × (p f.content ≡ true) in
     cond_both (p e.content) e (entry_for p t) R (λ q. (h.0, q)) (λ q. found Q p t h.1 (⊎_elim (λ y. absurd (true≢false (sym y ∙ q))) (λ y. y) (or_cases (p e.content) (has_entry p t) s)))
 
 -- where no two entries clash, an entry that passes is the first one
-pub first : (t : List Entry) → Apart t → All (λ e. (p : Content → Bool) → Exclusive p → p e.content ≡ true → entry_for p t ≡ e) t
+pub first : (t : List Entry) → Apart t → AllByRecursion (λ e. (p : Content → Bool) → Exclusive p → p e.content ≡ true → entry_for p t ≡ e) t
 first [] h = tt
 first (e ∷ t) h = (
   λ p x q. cond-true (p e.content) e (entry_for p t) q,
@@ -61,24 +61,24 @@ first (e ∷ t) h = (
       t h.0 (first t h.1),
 )
 
-pub apart_push : (t : List Entry) (e : Entry) → Apart t → All (λ f. clash f.content e.content ≡ false) t → Apart (t ++ e ∷ [])
+pub apart_push : (t : List Entry) (e : Entry) → Apart t → AllByRecursion (λ f. clash f.content e.content ≡ false) t → Apart (t ++ e ∷ [])
 apart_push [] e h k = (tt, tt)
 apart_push (f ∷ t) e h k = (All-push (λ g. clash f.content g.content ≡ false) t e h.0 k.0, apart_push t e h.1 k.1)
 
 -- the part of the trail up to a level
-pub up_to_all : (P : Entry → Type 0) (k : ℕ) (t : List Entry) → All (λ e. e.level ≤ k → P e) t → All P (up_to k t)
+pub up_to_all : (P : Entry → Type 0) (k : ℕ) (t : List Entry) → AllByRecursion (λ e. e.level ≤ k → P e) t → AllByRecursion P (up_to k t)
 up_to_all P k [] h = tt
 up_to_all P k (e ∷ t) h =
-    cond_both (leb e.level k) (e ∷ up_to k t) (up_to k t) (All P) (λ q. (h.0 (leb-true e.level k q), up_to_all P k t h.1)) (λ q. up_to_all P k t h.1)
+    cond_both (leb e.level k) (e ∷ up_to k t) (up_to k t) (AllByRecursion P) (λ q. (h.0 (leb-true e.level k q), up_to_all P k t h.1)) (λ q. up_to_all P k t h.1)
 
-pub up_to_back : (P : Entry → Type 0) (k : ℕ) (t : List Entry) → All P (up_to k t) → All (λ e. e.level ≤ k → P e) t
+pub up_to_back : (P : Entry → Type 0) (k : ℕ) (t : List Entry) → AllByRecursion P (up_to k t) → AllByRecursion (λ e. e.level ≤ k → P e) t
 up_to_back P k [] h = tt
 up_to_back P k (e ∷ t) h =
-    cond_both (leb e.level k) (e ∷ up_to k t) (up_to k t) (λ u. All P u → All (λ f. f.level ≤ k → P f) (e ∷ t))
+    cond_both (leb e.level k) (e ∷ up_to k t) (up_to k t) (λ u. AllByRecursion P u → AllByRecursion (λ f. f.level ≤ k → P f) (e ∷ t))
     (λ q r. (λ _. r.0, up_to_back P k t r.1))
     (λ q r. (λ l. absurd (true≢false (sym (le-leb e.level k l) ∙ q)), up_to_back P k t r)) h
 
-pub up_to_weaken : (P : Entry → Type 0) (k : ℕ) (t : List Entry) → All P t → All P (up_to k t)
+pub up_to_weaken : (P : Entry → Type 0) (k : ℕ) (t : List Entry) → AllByRecursion P t → AllByRecursion P (up_to k t)
 up_to_weaken P k t h = up_to_all P k t (All-weaker P (λ e. e.level ≤ k → P e) (λ e x _. x) t h)
 
 pub up_to_append : (k : ℕ) (t : List Entry) (e : Entry) → up_to k (t ++ e ∷ []) ≡ up_to k t ++ up_to k (e ∷ [])
@@ -96,7 +96,7 @@ up_to_twice j k (e ∷ t) h =
     (λ q. ap (λ u. cond (leb e.level j) (e ∷ u) u) (up_to_twice j k t h))
     (λ q. let l = leb-false e.level k q in up_to_twice j k t h ∙ sym (cond-false (leb e.level j) (e ∷ up_to j t) (up_to j t) (lt-leb e.level j (omega arith))))
 
-pub up_to_whole : (k : ℕ) (t : List Entry) → All (λ e. e.level ≤ k) t → up_to k t ≡ t
+pub up_to_whole : (k : ℕ) (t : List Entry) → AllByRecursion (λ e. e.level ≤ k) t → up_to k t ≡ t
 up_to_whole k [] h = refl
 up_to_whole k (e ∷ t) h = cond-true (leb e.level k) (e ∷ up_to k t) (up_to k t) (le-leb e.level k h.0) ∙ ap (λ u. e ∷ u) (up_to_whole k t h.1)
 
@@ -147,12 +147,12 @@ pub numbered_push : (k : ℕ) (t : List Entry) (e : Entry) → Numbered k t → 
 numbered_push k [] e h c = (λ y. let z = c y in omega arith, tt)
 numbered_push k (f ∷ t) e h c = (h.0, numbered_push (k + cond (choice f.content) 1 0) t e h.1 (λ y. let z = c y in omega arith))
 
-pub numbered_above : (k : ℕ) (t : List Entry) → Numbered k t → All (λ e. choice e.content ≡ true → k < e.level) t
+pub numbered_above : (k : ℕ) (t : List Entry) → Numbered k t → AllByRecursion (λ e. choice e.content ≡ true → k < e.level) t
 numbered_above k [] h = tt
 numbered_above k (e ∷ t) h = (λ y. let z = h.0 y in omega arith, All-weaker (λ f. choice f.content ≡ true → k + cond (choice e.content) 1 0 < f.level) (λ f. choice f.content ≡ true → k < f.level) (λ f g y. let z = g y in omega arith) t (numbered_above (k + cond (choice e.content) 1 0) t h.1))
 
 -- the choices are all above the level n: none is left
-pub none_left : (n : ℕ) (t : List Entry) → All (λ e. choice e.content ≡ true → n < e.level) t → (k : ℕ) → Numbered k (up_to n t) × (choices (up_to n t) ≡ 0)
+pub none_left : (n : ℕ) (t : List Entry) → AllByRecursion (λ e. choice e.content ≡ true → n < e.level) t → (k : ℕ) → Numbered k (up_to n t) × (choices (up_to n t) ≡ 0)
 none_left n [] h k = (tt, refl)
 none_left n (e ∷ t) h k =
     let P : List Entry → Type 0 = λ u. Numbered k u × (choices u ≡ 0) in

@@ -1,6 +1,6 @@
 -- What else holds of every state that calls lead to: its bounds, its reasons and its levels.
 use Rattle.std.specs.Prelude.{◌≡◌, ℕ, ◌+◌, ◌≤◌, true, false, cond, List, [], ◌∷◌, ◌++◌, length, ℤ}
-use Rattle.std.specs.List.{AllByRecursion as All}
+use Rattle.std.specs.List.{AllByRecursion}
 use Rattle.calculus.specs.Lists.{every}
 use Rattle.calculus.specs.Limits.{most_numbers, most_clauses, most_measures, most_numerator, most_denominator, within, sized}
 use Rattle.calculus.specs.Literals.{number, clause_like, holds_literal}
@@ -51,17 +51,17 @@ pub record Bounded (K : Kind) (s : State K) : Type 0 where
   pub few_numbers : s.numbers ≤ most_numbers
   pub few_measures : K.measures s.model ≤ most_measures
   pub few_clauses : length s.clauses ≤ most_clauses
-  pub each_clause : All (λ r. ClauseUpTo s.numbers r.literals) s.clauses
+  pub each_clause : AllByRecursion (λ r. ClauseUpTo s.numbers r.literals) s.clauses
   pub open_clause : ClauseUpTo s.numbers s.open_clause
   -- there is none but while analysing
   pub no_open : is_analysing s.phase ≡ false → s.open_clause ≡ []
   pub denominator : within most_denominator s.denominator ≡ true
   pub short_trail : length s.trail ≤ s.numbers + K.measures s.model
-  pub each_entry : All (λ e. ContentUpTo s.numbers (K.measures s.model) e.content) s.trail
-  pub levels : All (λ e. e.level ≤ choices s.trail) s.trail
+  pub each_entry : AllByRecursion (λ e. ContentUpTo s.numbers (K.measures s.model) e.content) s.trail
+  pub levels : AllByRecursion (λ e. e.level ≤ choices s.trail) s.trail
   pub choice_levels : Numbered 0 s.trail
   pub reasons : AllReasoned s.clauses [] s.trail
-  pub readings : All (λ e. ReadRight K s.model s.switches s.trail e.content e.level) s.trail
+  pub readings : AllByRecursion (λ e. ReadRight K s.model s.switches s.trail e.content e.level) s.trail
 
 abbrev pub EveryRunBounded : Kind → Type 0
 EveryRunBounded K = (cs : List Call) → Bounded K (run K cs)

@@ -1,6 +1,6 @@
 -- What the calls do, in a few sentences above their definitions.
 use Rattle.std.specs.Prelude.{◌≡◌, ℕ, ◌+◌, ◌<◌, true, ◌⊎◌, List, length, ℤ, Ok, Err}
-use Rattle.std.specs.List.{AllByRecursion as All}
+use Rattle.std.specs.List.{AllByRecursion}
 use Rattle.faults.specs.declared.SessionFault.{SessionFault}
 use Rattle.calculus.specs.declared.Judgement.TheVariants.{Yes}
 use Rattle.calculus.specs.declared.Vouching.TheVariants.{Vouched}
@@ -36,7 +36,7 @@ module _ (K : Kind) where
   -- a claim hands out the arrangement that the trail makes, which meets every rule and is admitted
   abbrev pub ClaimJudges : Type 0
   ClaimJudges = (s : State K) (r : Reply) → (step K s Claim).0 ≡ Ok r
-      → (r ≡ Handed (arranged K s)) × All (λ c. c.rule ≡ true → meets K s.model s.switches (arranged K s) c.literals ≡ true) s.clauses
+      → (r ≡ Handed (arranged K s)) × AllByRecursion (λ c. c.rule ≡ true → meets K s.model s.switches (arranged K s) c.literals ≡ true) s.clauses
       × (K.admitted s.model (arranged K s).numerators (arranged K s).denominator ≡ Yes)
 
   -- A jump from a state that calls lead to leaves no entry above its target, and enters its literal last. Where no other

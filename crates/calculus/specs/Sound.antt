@@ -1,6 +1,6 @@
 -- The law of the calculus: what holds of every state that calls lead to, over every lawful theory.
 use Rattle.std.specs.Prelude.{◌≡◌, ℕ, ◌<◌, ◌≤◌, true, List, length, ℤ, pos, neg_ℤ, Ok, filter, ◌≢◌}
-use Rattle.std.specs.List.{ContainsAt as Has, AllByRecursion as All}
+use Rattle.std.specs.List.{ContainsAt as Has, AllByRecursion}
 use Rattle.calculus.specs.declared.Judgement.TheVariants.{Yes}
 use Rattle.calculus.specs.Lists.{nth}
 use Rattle.calculus.specs.Literals.{number, signed}
@@ -27,18 +27,18 @@ module _ (K : Kind) (s : State K) (a : Arrangement) where
 
   -- the theory admits it, and it meets every rule
   abbrev pub Allowed : Type 0
-  Allowed = Fits × (K.admitted s.model a.numerators a.denominator ≡ Yes) × All (λ r. r.rule ≡ true → meets K s.model s.switches a r.literals ≡ true) s.clauses
+  Allowed = Fits × (K.admitted s.model a.numerators a.denominator ≡ Yes) × AllByRecursion (λ r. r.rule ≡ true → meets K s.model s.switches a r.literals ≡ true) s.clauses
 
   -- it agrees with the choices up to the level k
   abbrev pub Agrees : ℕ → Type 0
-  Agrees k = All (λ e. choice e.content ≡ true → e.level ≤ k → Keeps K s.model s.switches s.denominator a e.content) s.trail
+  Agrees k = AllByRecursion (λ e. choice e.content ≡ true → e.level ≤ k → Keeps K s.model s.switches s.denominator a e.content) s.trail
 
 pub record Guarantees (K : Kind) (s : State K) : Type 0 where
   -- every arrangement that the theory admits and that meets every rule meets every stored clause
-  pub clauses_follow : (a : Arrangement) → Allowed K s a → All (λ r. meets K s.model s.switches a r.literals ≡ true) s.clauses
+  pub clauses_follow : (a : Arrangement) → Allowed K s a → AllByRecursion (λ r. meets K s.model s.switches a r.literals ≡ true) s.clauses
   -- and if it agrees with the choices up to level k, it meets each trail literal of level up to k
   pub trail_follows : (a : Arrangement) → Allowed K s a → (k : ℕ) → Agrees K s a k
-      → All (λ e. e.level ≤ k → Keeps K s.model s.switches s.denominator a e.content) s.trail
+      → AllByRecursion (λ e. e.level ≤ k → Keeps K s.model s.switches s.denominator a e.content) s.trail
   -- the trail holds no literal with its denial
   pub no_denial : (l : ℤ) → on_trail l s.trail ≡ true → on_trail (neg_ℤ l) s.trail ≢ true
   -- no two values for one measure

@@ -1,7 +1,7 @@
 -- In an admitted arrangement a clause that matches two applications has a true literal.
 use Rattle.std.specs.Prelude.{◌≡◌, ℕ, zero, suc, ◌-◌, true, false, cond, not, ◌&&◌, ◌||◌, List, [], ◌∷◌, ◌++◌, length, ℤ, pos, negsuc, ◌==◌, ◌≢◌, nat_le, nat_lt, refl}
 use Rattle.std.proofs.Common.{sym, ◌∙◌, subst, ⊎_elim, arith}
-use Rattle.std.specs.List.{AllByRecursion as All}
+use Rattle.std.specs.List.{AllByRecursion}
 use Rattle.std.proofs.ByRecursion.{All-get_or, All-weaker}
 use Rattle.std.proofs.lemmas.Bool.{true≢false, both_ways, and_parts, and_from, or_cases, or_parts, not-true, not-false, cases_Bool, eqb-true, ltb-true, lt-leb, cond-false}
 use Rattle.calculus.specs.Lists.{every, some, nth}
@@ -20,7 +20,7 @@ fewer_consistent apps p xs h =
     (λ q e. all_every (agree xs q) apps (front (λ r. agree xs q r ≡ true) apps p (every_all (agree xs q) (apps ++ p ∷ []) e))) apps
     (front (λ q. every (agree xs q) (apps ++ p ∷ []) ≡ true) apps p (every_all (λ q. every (agree xs q) (apps ++ p ∷ [])) (apps ++ p ∷ []) h)))
 
-nth_all : (P : Application → Type 0) (apps : List Application) (a : ℕ) → within (length apps) a ≡ true → All P apps → P (nth no_application apps a)
+nth_all : (P : Application → Type 0) (apps : List Application) (a : ℕ) → within (length apps) a ≡ true → AllByRecursion P apps → P (nth no_application apps a)
 nth_all P apps zero h k = let b = within_true (length apps) 0 h in let b0 = b.0 in absurd (omega arith)
 nth_all P apps (suc a) h k = let b = within_true (length apps) (suc a) h in let b1 = b.1 in All-get_or P apps a no_application (omega arith) k
 

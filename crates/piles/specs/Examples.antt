@@ -1,6 +1,6 @@
 -- What congruence over linear answers, computed: four measures, applications, atoms, and a question.
 use Rattle.std.specs.Prelude.{◌≡◌, ℕ, List, [], ◌∷◌, ℤ, pos, negsuc, Ok, Err, Result}
-use Rattle.std.specs.List.{AllByRecursion as All}
+use Rattle.std.specs.List.{AllByRecursion}
 use Rattle.faults.specs.declared.InputCause.TheVariants.{WrongLength, OutOfRange}
 use Rattle.faults.specs.declared.TheoryFault.{TheoryFault}
 use Rattle.faults.specs.declared.TheoryFault.TheVariants as theory
@@ -116,6 +116,6 @@ declarations =
 
 abbrev pub ExamplesStand : Type 0
 ExamplesStand =
-    All (λ e. congruent_linear.vouched (made e.declarations e.atoms) 0 e.clause e.hint ≡ e.answer) vouchings
-    × All (λ e. says_admitted congruent_linear (made two_applications two_equations) e.numerators 1 ≡ e.answer) admissions
-    × All (λ e. answered congruent_linear (congruent_linear.declare (made [] []) e.body) ≡ e.answer) declarations
+    AllByRecursion (λ e. congruent_linear.vouched (made e.declarations e.atoms) 0 e.clause e.hint ≡ e.answer) vouchings
+    × AllByRecursion (λ e. says_admitted congruent_linear (made two_applications two_equations) e.numerators 1 ≡ e.answer) admissions
+    × AllByRecursion (λ e. answered congruent_linear (congruent_linear.declare (made [] []) e.body) ≡ e.answer) declarations

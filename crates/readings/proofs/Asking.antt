@@ -1,6 +1,6 @@
 -- A question within the limits is answered by what it means.
 use Rattle.std.proofs.Common.{◌≡◌, ℕ, ◌+◌, ◌<◌, ◌≤◌, Bool, true, false, ◌&&◌, ltb, leb, List, [], ◌∷◌, map, length, get_or, ℤ, sym, refl, ap, ◌∙◌, arith}
-use Rattle.std.specs.List.{range_with_len, AllByRecursion as All}
+use Rattle.std.specs.List.{range_with_len, AllByRecursion}
 use Rattle.std.proofs.lemmas.List.FromFn.{length-range_with_len, get_or-range_with_len, length-map-range_with_len}
 use Rattle.std.proofs.lemmas.Bool.{and_parts, and_from, ltb-true, lt-ltb, le-leb, eq-eqb, cond_both}
 use Rattle.calculus.specs.Lists.{every}
@@ -37,7 +37,7 @@ numerator_ranged (Value i x) h = (and_parts (within most_measures i) (sized most
 numerator_ranged (Literal l o) h = refl
 
 -- the values of a tidy trail are in range
-value_ranged : (j : ℕ) (t : List Entry) → All (λ e. ranged e.content ≡ true) t → sized most_numerator (value j t) ≡ true
+value_ranged : (j : ℕ) (t : List Entry) → AllByRecursion (λ e. ranged e.content ≡ true) t → sized most_numerator (value j t) ≡ true
 value_ranged j [] h = refl
 value_ranged j (e ∷ t) h = cond_both (values j e.content) e (entry_for (values j) t) (λ (x : Entry). sized most_numerator (numerator x.content) ≡ true) (λ _. numerator_ranged e.content h.0) (λ _. value_ranged j t h.1)
 

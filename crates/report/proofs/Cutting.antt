@@ -2,7 +2,7 @@
 use Rattle.std.proofs.Common.{◌≡◌, ℕ, ◌+◌, ◌^◌, ◌<◌, ◌≤◌, Bool, true, false, cond, List, [], ◌∷◌, ◌++◌, get_or, drop, ℤ, codes, decimal, sym, refl, ap, ◌∙◌, append_assoc, arith}
 use lib.Signed.{mag}
 use Rattle.std.specs.Fmt.{signed_decimal}
-use Rattle.std.specs.List.{AllByRecursion as All}
+use Rattle.std.specs.List.{AllByRecursion}
 use Rattle.std.proofs.lemmas.List.{append_cancel_left}
 use Rattle.report.specs.Lines.{possible_line, switch_line, measure_line, switch_lines, measure_lines}
 use Rattle.report.proofs.Decimals.{Word, word_decimal, word_signed, same_decimal, same_signed}
@@ -48,7 +48,7 @@ measure_cut n x y p q small e =
     let r = cut (signed_decimal x) (signed_decimal y) 10 10 p q (word_signed x) (word_signed y) (omega arith) (omega arith) rest in
     (same_signed x y small r.0, r.1)
 
-measures_same : (n : ℕ) (xs ys : List ℤ) → All (λ x. mag x < 2 ^ 63) ys → measure_lines n xs ≡ measure_lines n ys → xs ≡ ys
+measures_same : (n : ℕ) (xs ys : List ℤ) → AllByRecursion (λ x. mag x < 2 ^ 63) ys → measure_lines n xs ≡ measure_lines n ys → xs ≡ ys
 measures_same n [] [] small e = refl
 measures_same n [] (y ∷ ys) small e = absurd (omega (arith, ap first e))
 measures_same n (x ∷ xs) [] small e = absurd (omega (arith, ap first e))
@@ -63,7 +63,7 @@ apart n m y [] p e = omega (arith, ap first e)
 apart n m y (u ∷ us) p e = omega (arith, ap first e)
 
 -- the lines behind the first
-pub rest_same : (n : ℕ) (xs ys : List Bool) (us vs : List ℤ) → All (λ x. mag x < 2 ^ 63) vs → switch_lines n xs ++ measure_lines 1 us ≡ switch_lines n ys ++ measure_lines 1 vs → (xs ≡ ys) × (us ≡ vs)
+pub rest_same : (n : ℕ) (xs ys : List Bool) (us vs : List ℤ) → AllByRecursion (λ x. mag x < 2 ^ 63) vs → switch_lines n xs ++ measure_lines 1 us ≡ switch_lines n ys ++ measure_lines 1 vs → (xs ≡ ys) × (us ≡ vs)
 rest_same n [] [] us vs small e = (refl, measures_same 1 us vs small e)
 rest_same n [] (y ∷ ys) us vs small e = absurd (apart n 1 y us _ (e ∙ append_assoc (switch_line n y) (switch_lines (n + 1) ys) (measure_lines 1 vs)))
 rest_same n (x ∷ xs) [] us vs small e = absurd (apart n 1 x vs _ (sym e ∙ append_assoc (switch_line n x) (switch_lines (n + 1) xs) (measure_lines 1 us)))

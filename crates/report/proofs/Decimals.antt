@@ -3,7 +3,7 @@ use Rattle.std.proofs.Common.{◌≡◌, ℕ, zero, suc, ◌+◌, ◌-◌, ◌*�
 use native.Mathlib.Nat.{one-le-pow}
 use lib.Signed.{mag}
 use Rattle.std.specs.Fmt.{digit_glyph, digits_onto, digits, signed_decimal}
-use Rattle.std.specs.List.{AllByRecursion as All}
+use Rattle.std.specs.List.{AllByRecursion}
 use Rattle.std.proofs.lemmas.Fmt.{length-decimal-le}
 use Rattle.std.proofs.ByRecursion.{All-weaker}
 use Rattle.std.proofs.lemmas.Bool.{cases_lt}
@@ -23,7 +23,7 @@ last_is n = ap (λ (b : Bool). cond b (48 + n % 10) (87 + n % 10)) (lt-ltb (n % 
 
 -- each byte is a digit, however large the number
 abbrev Figures : List ℕ → Type 0
-Figures = All (λ c. 48 ≤ c)
+Figures = AllByRecursion (λ c. 48 ≤ c)
 
 either : (b : Bool) (xs ys : List ℕ) → Figures xs → Figures ys → Figures (cond b xs ys)
 either true xs ys p q = p
@@ -89,7 +89,7 @@ same_signed (negsuc m) (negsuc n) h e = ap negsuc (omega (arith, same_decimal (s
 
 -- the bytes of a number lie above the blank
 abbrev pub Word : List ℕ → Type 0
-Word = All (λ c. 32 < c)
+Word = AllByRecursion (λ c. 32 < c)
 
 pub word_decimal : (n : ℕ) → Word (decimal n)
 word_decimal n = All-weaker (λ c. 48 ≤ c) (λ c. 32 < c) (λ c h. omega arith) (decimal n) (figures n)

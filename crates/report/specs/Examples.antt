@@ -1,6 +1,6 @@
 -- Computed examples of reports.
 use Rattle.std.specs.Prelude.{◌≡◌, ℕ, ◌*◌, ◌^◌, true, false, List, [], ◌∷◌, pos, negsuc, codes}
-use Rattle.std.specs.List.{AllByRecursion as All}
+use Rattle.std.specs.List.{AllByRecursion}
 use Rattle.faults.specs.declared.InputCause.TheVariants.{FileTooLong}
 use Rattle.faults.specs.declared.StateCause.TheVariants.{NotVouched}
 use Rattle.faults.specs.declared.TheoryFault.TheVariants as theory
@@ -29,6 +29,6 @@ abbrev pub over : ℕ → Outcome
 over d = Told (Possible (record { switches = []; numerators = []; denominator = d }))
 
 pub record ExamplesStand : Type 0 where
-  pub reports : All (λ e. lines e.outcome ≡ e.report) examples
+  pub reports : AllByRecursion (λ e. lines e.outcome ≡ e.report) examples
   -- numbers of more than 64 digits can look alike
   pub cut : lines (over (10 ^ 64)) ≡ lines (over (2 * 10 ^ 64))

@@ -1,7 +1,7 @@
 -- What the bytes of a report tell.
 use Rattle.std.specs.Prelude.{◌≡◌, ◌^◌, ◌<◌}
 use Rattle.std.specs.Int.Signed.{mag}
-use Rattle.std.specs.List.{AllByRecursion as All}
+use Rattle.std.specs.List.{AllByRecursion}
 use Rattle.calculus.specs.Arrangements.{Arrangement}
 use Rattle.calculus.specs.States.Verdict.{Impossible, Possible, Undecided}
 use Rattle.verdicts.specs.Outcomes.{Outcome, Told}
@@ -10,7 +10,7 @@ use Rattle.report.specs.Lines.{lines}
 -- Its numbers are of 64 bits. A decimal has 64 digits at most, so that numbers of any size can look alike.
 pub record Sized (a : Arrangement) : Type 0 where
   pub denominator : a.denominator < 2 ^ 64
-  pub numerators : All (λ x. mag x < 2 ^ 63) a.numerators
+  pub numerators : AllByRecursion (λ x. mag x < 2 ^ 63) a.numerators
 
 -- No two outcomes have the same report, if one of them is a verdict.
 pub record LinesTell : Type 0 where

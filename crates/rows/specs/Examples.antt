@@ -1,6 +1,6 @@
 -- Computed examples of the linear theory, over two measures.
 use Rattle.std.specs.Prelude.{◌≡◌, ℕ, List, [], ◌∷◌, ℤ, pos, negsuc, Ok, Err, Result}
-use Rattle.std.specs.List.{AllByRecursion as All}
+use Rattle.std.specs.List.{AllByRecursion}
 use Rattle.faults.specs.declared.InputCause.TheVariants.{WrongLength, OutOfRange}
 use Rattle.faults.specs.declared.TheoryFault.{TheoryFault}
 use Rattle.calculus.specs.declared.Vouching.{Vouching}
@@ -91,5 +91,5 @@ offered =
 
 abbrev pub ExamplesStand : Type 0
 ExamplesStand =
-    All (λ e. linear.vouched (with_atoms e.atoms) e.switches e.clause e.hint ≡ e.answer) asked
-    × All (λ e. answered linear (linear.admit (with_atoms []) e.body) ≡ e.answer) offered
+    AllByRecursion (λ e. linear.vouched (with_atoms e.atoms) e.switches e.clause e.hint ≡ e.answer) asked
+    × AllByRecursion (λ e. answered linear (linear.admit (with_atoms []) e.body) ≡ e.answer) offered

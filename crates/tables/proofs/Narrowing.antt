@@ -1,6 +1,6 @@
 -- At most one entry passes an exclusive test: a narrower test finds that one or none.
 use Rattle.std.proofs.Common.{◌≡◌, ℕ, Bool, true, false, cond, ◌||◌, List, [], ◌∷◌, ℤ, pos, negsuc, neg_ℤ, nat_abs, Some, None, sym, refl, ap, ◌∙◌, subst, ⊎_elim, to_z-of_z, w8, SFits, to_z, of_z}
-use Rattle.std.specs.List.{AllByRecursion as All}
+use Rattle.std.specs.List.{AllByRecursion}
 use Rattle.std.proofs.lemmas.Bool.{true≢false, or_parts, or_cases, or_from, cases_Bool, cond-true, cond-false}
 use Rattle.calculus.specs.Literals.{number}
 use Rattle.calculus.specs.Trails.{Content, Entry, no_entry, affirms, concerns, entry_for, has_entry}
@@ -25,7 +25,7 @@ module _ (p q : Content → Bool) (narrower : (c : Content) → p c ≡ true →
       (or_from (p e.content) (has_entry p t) y r.0, cond-false (p e.content) e (entry_for p t) y ∙ r.1)
 
   module _ (x : Exclusive q) where
-    rest_fails : (c : Content) → q c ≡ true → (t : List Entry) → All (λ f. clash c f.content ≡ false) t → has_entry q t ≡ false
+    rest_fails : (c : Content) → q c ≡ true → (t : List Entry) → AllByRecursion (λ f. clash c f.content ≡ false) t → has_entry q t ≡ false
     rest_fails c y [] h = refl
     rest_fails c y (f ∷ t) h = or_from (q f.content) (has_entry q t) (⊎_elim (λ z. absurd (true≢false (sym (x c f.content y z) ∙ h.0))) (λ z. z) (cases_Bool (q f.content))) (rest_fails c y t h.1)
 

@@ -1,6 +1,6 @@
 -- A tidy trail: no two entries clash, each is in range, and there is room for what is free.
 use Rattle.std.proofs.Common.{◌≡◌, ℕ, ◌<◌, ◌≤◌, Bool, true, false, ◌&&◌, eqb, List, [], ◌∷◌, ◌++◌, length, sym, refl, ◌∙◌, arith}
-use Rattle.std.specs.List.{AllByRecursion as All}
+use Rattle.std.specs.List.{AllByRecursion}
 use Rattle.std.proofs.lemmas.List.{length_push}
 use Rattle.std.proofs.ByRecursion.{All-weaker, All-push}
 use Rattle.std.proofs.lemmas.Bool.{and_parts, and_from, or_parts, or_from, not-true, not_from_false, eqb-false, ne_eqb}
@@ -17,11 +17,11 @@ eqb_flip : (a b : ℕ) → eqb a b ≡ false → eqb b a ≡ false
 eqb_flip a b h = ne_eqb b a (λ e. eqb-false a b h (sym e))
 
 -- none passes, if none does that fails
-none_all : (p : Content → Bool) (P : Entry → Type 0) → ((e : Entry) → p e.content ≡ false → P e) → (t : List Entry) → has_entry p t ≡ false → All P t
+none_all : (p : Content → Bool) (P : Entry → Type 0) → ((e : Entry) → p e.content ≡ false → P e) → (t : List Entry) → has_entry p t ≡ false → AllByRecursion P t
 none_all p P f [] h = tt
 none_all p P f (e ∷ t) h = let b = or_parts (p e.content) (has_entry p t) h in (f e b.0, none_all p P f t b.1)
 
-all_none : (p : Content → Bool) (P : Entry → Type 0) → ((e : Entry) → P e → p e.content ≡ false) → (t : List Entry) → All P t → has_entry p t ≡ false
+all_none : (p : Content → Bool) (P : Entry → Type 0) → ((e : Entry) → P e → p e.content ≡ false) → (t : List Entry) → AllByRecursion P t → has_entry p t ≡ false
 all_none p P f [] h = refl
 all_none p P f (e ∷ t) h = or_from (p e.content) (has_entry p t) (f e h.0) (all_none p P f t h.1)
 
@@ -39,18 +39,18 @@ clash_flip (Value i x) (Literal l p) h = refl
 clash_flip (Literal k o) (Value j y) h = refl
 clash_flip (Literal k o) (Literal l p) h = eqb_flip (number k) (number l) h
 
-pub free_apart : (c : Content) (t : List Entry) → free c t ≡ true → All (λ f. clash f.content c ≡ false) t
+pub free_apart : (c : Content) (t : List Entry) → free c t ≡ true → AllByRecursion (λ f. clash f.content c ≡ false) t
 free_apart (Value j x) t h = none_all (values j) (λ f. clash f.content (Value j x) ≡ false) (λ e y. sym (measure_clash j x e.content) ∙ y) t (not-true _ h)
 free_apart (Literal l o) t h = none_all (concerns (number l)) (λ f. clash f.content (Literal l o) ≡ false) (λ e y. sym (number_clash l o e.content) ∙ y) t (not-true _ h)
 
-pub apart_free : (c : Content) (t : List Entry) → All (λ f. clash f.content c ≡ false) t → free c t ≡ true
+pub apart_free : (c : Content) (t : List Entry) → AllByRecursion (λ f. clash f.content c ≡ false) t → free c t ≡ true
 apart_free (Value j x) t h = not_from_false _ (all_none (values j) (λ f. clash f.content (Value j x) ≡ false) (λ e y. measure_clash j x e.content ∙ y) t h)
 apart_free (Literal l o) t h = not_from_false _ (all_none (concerns (number l)) (λ f. clash f.content (Literal l o) ≡ false) (λ e y. number_clash l o e.content ∙ y) t h)
 
-flipped : (c : Content) (t : List Entry) → All (λ f. clash f.content c ≡ false) t → All (λ f. clash c f.content ≡ false) t
+flipped : (c : Content) (t : List Entry) → AllByRecursion (λ f. clash f.content c ≡ false) t → AllByRecursion (λ f. clash c f.content ≡ false) t
 flipped c t h = All-weaker (λ f. clash f.content c ≡ false) (λ f. clash c f.content ≡ false) (λ f y. clash_flip f.content c y) t h
 
-flopped : (c : Content) (t : List Entry) → All (λ f. clash c f.content ≡ false) t → All (λ f. clash f.content c ≡ false) t
+flopped : (c : Content) (t : List Entry) → AllByRecursion (λ f. clash c f.content ≡ false) t → AllByRecursion (λ f. clash f.content c ≡ false) t
 flopped c t h = All-weaker (λ f. clash c f.content ≡ false) (λ f. clash f.content c ≡ false) (λ f y. clash_flip c f.content y) t h
 
 pub tidy_apart : (t : List Entry) → tidy t ≡ true → Apart t
@@ -60,14 +60,14 @@ tidy_apart (e ∷ t) h =
     let a = and_parts (ranged e.content) (free e.content t) b.0 in
     (flipped e.content t (free_apart e.content t a.1), tidy_apart t b.1)
 
-pub tidy_ranged : (t : List Entry) → tidy t ≡ true → All (λ e. ranged e.content ≡ true) t
+pub tidy_ranged : (t : List Entry) → tidy t ≡ true → AllByRecursion (λ e. ranged e.content ≡ true) t
 tidy_ranged [] h = tt
 tidy_ranged (e ∷ t) h =
     let b = and_parts (ranged e.content && free e.content t) (tidy t) h in
     let a = and_parts (ranged e.content) (free e.content t) b.0 in
     (a.0, tidy_ranged t b.1)
 
-pub apart_tidy : (t : List Entry) → Apart t → All (λ e. ranged e.content ≡ true) t → tidy t ≡ true
+pub apart_tidy : (t : List Entry) → Apart t → AllByRecursion (λ e. ranged e.content ≡ true) t → tidy t ≡ true
 apart_tidy [] a r = refl
 apart_tidy (e ∷ t) a r = and_from _ _ (and_from _ _ r.0 (apart_free e.content t (flopped e.content t a.0))) (apart_tidy t a.1 r.1)
 

@@ -1,6 +1,6 @@
 -- Trials: lists of calls with what they must lead to.
 use Rattle.std.specs.Prelude.{◌≡◌, List, map, ℤ, Result}
-use Rattle.std.specs.List.{AllByRecursion as All}
+use Rattle.std.specs.List.{AllByRecursion}
 use Rattle.faults.specs.declared.SessionFault.{SessionFault}
 use Rattle.calculus.specs.Calls.{Call}
 use Rattle.calculus.specs.Kinds.{Kind}
@@ -22,7 +22,7 @@ pub record Leads : Type 0 where
   pub open_clause : List ℤ
 
 abbrev pub AnswersStand : Kind → List Answers → Type 0
-AnswersStand K rows = All (λ r. map (λ c. (step K (run K r.after) c).0) r.calls ≡ r.answers) rows
+AnswersStand K rows = AllByRecursion (λ r. map (λ c. (step K (run K r.after) c).0) r.calls ≡ r.answers) rows
 
 abbrev pub LeadsStand : Kind → List Leads → Type 0
-LeadsStand K rows = All (λ r. ((run K r.after).phase ≡ r.phase) × ((run K r.after).trail ≡ r.trail) × ((run K r.after).open_clause ≡ r.open_clause)) rows
+LeadsStand K rows = AllByRecursion (λ r. ((run K r.after).phase ≡ r.phase) × ((run K r.after).trail ≡ r.trail) × ((run K r.after).open_clause ≡ r.open_clause)) rows

@@ -1,6 +1,6 @@
 -- What is allowed at the end of a log is what solves its case.
 use Rattle.std.proofs.Common.{◌≡◌, ℕ, ◌+◌, ◌-◌, true, false, cond, ◌||◌, leb, List, [], ◌∷◌, map, ℤ, filter, sym, refl, ap, ◌∙◌, subst, ⊎_elim, arith}
-use Rattle.std.specs.List.{AllByRecursion as All}
+use Rattle.std.specs.List.{AllByRecursion}
 use Rattle.std.proofs.ByRecursion.{All-map, all_kept_by}
 use Rattle.std.proofs.lemmas.Bool.{and_parts, cases_Bool, cond-true, leb-false}
 use Rattle.calculus.specs.Lists.{every, nth}
@@ -16,7 +16,7 @@ use Rattle.verdicts.specs.Stated.{case_switches, case_theory, Solves}
 use Rattle.verdicts.specs.Honest.{OnlyAtomsAdded}
 use Rattle.verdicts.proofs.Drafting.{Holds}
 
-all_unmap : {X Y : Type 0} (P : X → Type 0) (f : Y → X) (ys : List Y) → All P (map f ys) → All (λ y. P (f y)) ys
+all_unmap : {X Y : Type 0} (P : X → Type 0) (f : Y → X) (ys : List Y) → AllByRecursion P (map f ys) → AllByRecursion (λ y. P (f y)) ys
 all_unmap P f [] h = tt
 all_unmap P f (y ∷ ys) h = (h.0, all_unmap P f ys h.1)
 
@@ -54,7 +54,7 @@ module _ (K : Kind) (case : List ℕ) (s t : State K) (said : Holds K case s) (h
   abbrev InCase : List ℤ → Type 0
   InCase ls = meets K (case_theory K case) (case_switches K case) a ls ≡ true
 
-  known : All Known (filter (λ r. r.rule) s.clauses)
+  known : AllByRecursion Known (filter (λ r. r.rule) s.clauses)
   known = all_kept_by (λ r. r.rule) Known s.clauses held.core.rows_known
 
   as_stated : (r : Stored) → Known r → meets K t.model t.switches a r.literals ≡ meets K (case_theory K case) (case_switches K case) a r.literals
@@ -68,20 +68,20 @@ module _ (K : Kind) (case : List ℕ) (s t : State K) (said : Holds K case s) (h
   pub solves : Allowed K t a → Solves K case a
   solves h =
       let rows = filter (λ r. r.rule) s.clauses in
-      let in_log = subst (All InLog) added.rules (kept_all (λ r. r.rule) InLog t.clauses h.2) in
+      let in_log = subst (AllByRecursion InLog) added.rules (kept_all (λ r. r.rule) InLog t.clauses h.2) in
       let in_case = both Known InLog (λ r. InCase r.literals) (λ r q x. sym (as_stated r q) ∙ x) rows known in_log in
       record {
         switches = h.0.0 ∙ added.switches ∙ said.switches;
         measures = h.0.1 ∙ added.measures ∙ ap K.measures said.model;
         positive = h.0.2;
         admitted = sym admitted_same ∙ h.1;
-        rules = subst (All InCase) said.rules (All-map InCase (λ r. r.literals) rows in_case);
+        rules = subst (AllByRecursion InCase) said.rules (All-map InCase (λ r. r.literals) rows in_case);
       }
 
   pub allowed : Solves K case a → Allowed K t a
   allowed h =
       let rows = filter (λ r. r.rule) s.clauses in
-      let in_case = all_unmap InCase (λ r. r.literals) rows (subst (All InCase) (sym said.rules) h.rules) in
+      let in_case = all_unmap InCase (λ r. r.literals) rows (subst (AllByRecursion InCase) (sym said.rules) h.rules) in
       let in_log = both Known (λ r. InCase r.literals) InLog (λ r q x. as_stated r q ∙ x) rows known in_case in
       let fits : Fits K t a = (
         h.switches ∙ sym (added.switches ∙ said.switches),
@@ -90,5 +90,5 @@ module _ (K : Kind) (case : List ℕ) (s t : State K) (said : Holds K case s) (h
       ) in (
         fits,
         admitted_same ∙ h.admitted,
-        kept_back (λ r. r.rule) InLog t.clauses (subst (All InLog) (sym added.rules) in_log),
+        kept_back (λ r. r.rule) InLog t.clauses (subst (AllByRecursion InLog) (sym added.rules) in_log),
       )
