@@ -1,7 +1,7 @@
 ghost use Rattle.std.specs.Prelude.{◌≡◌, ℕ, ◌+◌, ◌≤◌, Bool, true, nat_le, nat_lt};
 ghost use Rattle.calculus.specs.Lists.{every};
 ghost use Rattle.calculus.specs.Limits.{most_numbers, most_denominator, within};
-ghost use Rattle.calculus.specs.Literals.{number as number_of_lem};
+ghost use Rattle.calculus.specs.Literals.{number as number_of};
 
 use super::Counts;
 use tables::literals::are_within;
@@ -91,7 +91,7 @@ impl Counts {
 
     // The numbers of all these literals are in use.
     pub fn has_all(self, literals: &[i8]) -> bool
-        ensures { result ≡ every (λ l. within self.numbers (number_of_lem l)) literals.now }
+        ensures { result ≡ every (λ l. within self.numbers (number_of l)) literals.now }
     {
         are_within(literals, self.numbers as usize)
     }
