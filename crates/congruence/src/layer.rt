@@ -6,7 +6,6 @@ ghost use Rattle.calculus.specs.Questions.{Moves};
 ghost use Rattle.congruence.specs.Congruences.{congruence, is_own, application_taken, matched, raised_result, raised_vouching};
 ghost use Rattle.congruence.specs.Views.{layer_model};
 ghost use Rattle.congruence.specs.Lawfulness.{congruence_lawful};
-ghost use Rattle.std.proofs.Common.{rules};
 
 use crate::application::Application;
 use crate::applications::Applications;
@@ -132,7 +131,7 @@ impl<T: Theory> Theory for Congruence<T> {
 
     ghost lawful = { congruence_lawful T.Theory.kind T.Theory.lawful };
 
-    ghost few = { Prim.search rules };
+    ghost few = { λ c. T.Theory.few c.below };
 
     fn begin() -> Self {
         Congruence {

@@ -1,4 +1,4 @@
-use Rattle.std.proofs.Common.{sym}
+use Rattle.std.proofs.Common.{sym, rules}
 use Rattle.calculus.specs.Lists.{every}
 use Rattle.congruence.specs.Applications.{agree}
 use Rattle.congruence.specs.Views.{applications_of}
@@ -7,8 +7,8 @@ use Rattle.congruence.proofs.applications.Applications.are_consistent.Goals as g
 
 pub loop-k-preserved : goal.loop-k-preserved
 loop-k-preserved c =
-    let t = c.args.self.now in
-    rows_more t (λ p. every (agree c.args.numerators.now p) (applications_of t)) c.loop-k.k c.index-self-k.result c.loop-k-test.true (sym c.if-not-agrees_with_all.ensures) c.loop-k.invariant
+    let more = rows_more c.args.self.now (λ p. every (agree c.args.numerators.now p) (applications_of c.args.self.now)) c.loop-k.k c.index-self-k.result c.loop-k-test.true in
+    search (rules, more)
 
 pub returns-then-not-agrees_with_all : goal.returns-then-not-agrees_with_all
 returns-then-not-agrees_with_all c =
