@@ -1,4 +1,3 @@
 pub mod Leading
 pub mod Obeying
 pub mod Advancing
-pub mod Reaching

@@ -9,9 +9,9 @@ use Rattle.calculus.specs.States.{State}
 use Rattle.calculus.specs.Steps.{Outcome}
 use Rattle.session.specs.declared.Session.{Session}
 use Rattle.session.specs.Views.{answer_of, view, Steps}
-use Rattle.driver.specs.declared.orders.Order.{Order}
-use Rattle.driver.specs.declared.orders.Order.TheVariants as order
-use Rattle.driver.specs.Orders.{call_of}
+use Rattle.session.specs.declared.replaying.Order.{Order}
+use Rattle.session.specs.declared.replaying.Order.TheVariants as order
+use Rattle.session.specs.Orders.{call_of}
 use Rattle.driver.specs.Holding.{taken_of, is_token_call, Obeys, NotServed, SamePhase}
 use Rattle.driver.proofs.Leading.{out_of_phase, plain_keeps}
 

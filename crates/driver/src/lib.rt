@@ -2,7 +2,6 @@
 #![tactic(auto)]
 
 pub mod held;
-pub mod orders;
 mod records;
 pub mod replaying;
 mod stepping;

@@ -5,16 +5,16 @@ ghost use Rattle.files.specs.Decoding as decoding;
 ghost use Rattle.files.specs.Views.{call_view, literals as literals_of};
 ghost use Rattle.session.specs.Views.{view};
 ghost use Rattle.verdicts.specs.Outcomes.{take_file};
-ghost use Rattle.driver.specs.Orders.{call_of};
+ghost use Rattle.session.specs.Orders.{call_of};
 ghost use Rattle.driver.specs.Holding.{Holds};
 ghost use Rattle.driver.specs.Taking.{Short, after_record, record_view, file_view};
 
 use crate::held::Held;
-use crate::orders::Order;
 use calculus::Theory;
 use faults::FileFault;
 use files::{Call, FileKind, Literals, Reader, Record, Stop};
 use session::Session;
+use session::replaying::Order;
 
 // Writes the literals to the front of the room that there is for them.
 fn fill<'a>(room: &'a mut [i8], literals: Literals) -> &'a [i8]

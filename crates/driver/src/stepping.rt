@@ -1,13 +1,13 @@
 // One call: what is held goes in, and what is held then comes out.
 ghost use Rattle.std.specs.Prelude.{◌≡◌};
-ghost use Rattle.driver.specs.Orders.{call_of};
+ghost use Rattle.session.specs.Orders.{call_of};
 ghost use Rattle.driver.specs.Holding.{Holds, Obeys, Advances, NotServed, SamePhase};
 ghost use Rattle.driver.specs.declared.held.Held.TheVariants.{Nothing, Draft, Analysis};
 
 use crate::held::Held;
-use crate::orders::Order;
 use calculus::Theory;
 use faults::{SessionFault, StateCause};
+use session::replaying::Order;
 use session::{Conflict, Permit, Session};
 
 // The calls that need nothing in hand and give nothing out. Any other is refused: it does not serve now.

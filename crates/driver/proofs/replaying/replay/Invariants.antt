@@ -1,7 +1,7 @@
 use Rattle.std.proofs.Common.{◌≡◌, ◌≤◌, map, length, take}
 use Rattle.calculus.specs.Steps.{run}
 use Rattle.session.specs.Views.{view}
-use Rattle.driver.specs.Orders.{call_of}
+use Rattle.session.specs.Orders.{call_of}
 use Rattle.driver.specs.Holding.{Holds}
 use Rattle.driver.proofs.replaying.replay.Given as goal
 

@@ -4,7 +4,7 @@ use Rattle.calculus.specs.Steps.{step}
 use Rattle.calculus.specs.Steps.Reply.{Done}
 use Rattle.session.specs.Views.{view}
 use Rattle.driver.specs.declared.held.Held.TheVariants.{Nothing, Analysis}
-use Rattle.driver.specs.Orders.{call_of}
+use Rattle.session.specs.Orders.{call_of}
 use Rattle.driver.proofs.Leading.{resolve_leads, jump_leads, concede_leads, abandon_leads}
 use Rattle.driver.proofs.Advancing.{spent, given_back, landed, stayed, held_still}
 use Rattle.driver.proofs.stepping.analyse.Goals as goal

@@ -4,7 +4,7 @@ use Rattle.session.specs.Views.{view}
 use Rattle.calculus.specs.States.{State}
 use Rattle.calculus.specs.Steps.{step}
 use Rattle.driver.specs.declared.held.Held.TheVariants.{Nothing, Draft}
-use Rattle.driver.specs.Orders.{call_of}
+use Rattle.session.specs.Orders.{call_of}
 use Rattle.driver.proofs.Leading.{declare_keeps, rule_keeps, seal_leads}
 use Rattle.driver.proofs.Obeying.{obeyed}
 use Rattle.driver.proofs.Advancing.{spent, given_back, landed, stayed, held_still}

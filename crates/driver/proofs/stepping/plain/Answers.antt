@@ -1,6 +1,6 @@
 use Rattle.std.proofs.Common.{sym, refl, ap, ◌∙◌, to_z-of_z, w8, w32, SFits, rules}
 use Rattle.calculus.specs.Calls.Call.{Admit, Lemma, Choose, Set, Propagate, Read}
-use Rattle.driver.specs.Orders.{call_of}
+use Rattle.session.specs.Orders.{call_of}
 use Rattle.driver.proofs.Obeying.{plainly, refused, rest_token}
 use Rattle.driver.proofs.stepping.plain.Goals as goal
 

@@ -3,7 +3,7 @@ use Rattle.calculus.specs.Calls.Call.{Counts, Conflict, Claim, Abandon}
 use Rattle.calculus.specs.Steps.Reply.{Done}
 use Rattle.session.specs.Views.{view}
 use Rattle.driver.specs.declared.held.Held.TheVariants.{Nothing, Draft, Analysis}
-use Rattle.driver.specs.Orders.{call_of}
+use Rattle.session.specs.Orders.{call_of}
 use Rattle.driver.proofs.Leading.{counts_leads, conflict_leads, claim_leads, abandon_leads}
 use Rattle.driver.proofs.Advancing.{landed, stayed, held_still}
 use Rattle.driver.proofs.stepping.search.Goals as goal
