@@ -17,12 +17,12 @@ use Rattle.calculus.specs.Sound.{Keeps}
 use Rattle.calculus.proofs.Testing.{both, every_all, all_every, every_append, some_left, some_right, some_of, all_some, kept_all, kept_back, highest_above, within_true, not_both, same_true, number_neg}
 use Rattle.calculus.proofs.Trailing.{Exclusive, concerns_exclusive, denies_concerns, found, first, numbered_above, has_more, has_whole, has_up_to, level_up_to}
 use Rattle.calculus.proofs.Meaning.{readable_more, not_all_false}
-use Rattle.calculus.proofs.Invariant.{Ok, Placed, Core, all_kept}
+use Rattle.calculus.proofs.Invariant.{Admissible, Placed, Core, all_kept}
 use Rattle.calculus.proofs.Entering.{clause_of, level_bound}
 
 -- the open clause is false, on numbers that there are, and follows
 abbrev pub Opened : (K : Kind) → K.Model → ℕ → List Stored → List Entry → List ℤ → Type 0
-Opened K m w rows t ls = (every (false_on t) ls ≡ true) × (every (λ l. within (w + K.atoms m) (number l)) ls ≡ true) × ((a : Arrangement) → Ok K m w rows a → meets K m w a ls ≡ true)
+Opened K m w rows t ls = (every (false_on t) ls ≡ true) × (every (λ l. within (w + K.atoms m) (number l)) ls ≡ true) × ((a : Arrangement) → Admissible K m w rows a → meets K m w a ls ≡ true)
 
 pub literal_on_of : (P : ℤ → Type 0) (n : ℕ) (ls : List ℤ) → AllByRecursion P ls → some (λ k. eqb (number k) n) ls ≡ true → P (literal_on n ls)
 literal_on_of P n [] h s = absurd (true≢false (sym s))
@@ -166,7 +166,7 @@ module _ (K : Kind) (m : K.Model) (w d : ℕ) (rows : List Stored) (t : List Ent
       top = highest (false_at t) (others l ls)
 
   -- an open clause at level 0 leaves nothing
-  pub nothing_left : (ls : List ℤ) → Opened K m w rows t ls → highest (false_at t) ls ≡ 0 → (a : Arrangement) → Ok K m w rows a → ⊥
+  pub nothing_left : (ls : List ℤ) → Opened K m w rows t ls → highest (false_at t) ls ≡ 0 → (a : Arrangement) → Admissible K m w rows a → ⊥
   nothing_left ls o z a ok =
       not_all_false K m w d a (up_to 0 t) (all_kept K m w d rows t h a ok 0
       (All-weaker (λ e. choice e.content ≡ true → 0 < e.level) (λ e. choice e.content ≡ true → e.level ≤ 0 → Keeps K m w d a e.content) (λ e g y l. let v = g y in absurd (omega arith)) t (numbered_above 0 t h.numbered)))

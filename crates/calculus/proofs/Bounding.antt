@@ -101,14 +101,6 @@ record Tame (K : Kind) (s : State K) : Type 0 where
   pub values : AllByRecursion (λ e. SizedValue e.content) s.trail
   pub reasons : AllReasoned s.clauses [] s.trail
 
--- a number that is new has no phase but new
-not_new : (p : Phase) → (is_drafting p || is_searching p) ≡ true → is_new p ≡ true → ⊥
-not_new New h k = true≢false (sym h)
-not_new Drafting h k = true≢false (sym k)
-not_new Searching h k = true≢false (sym k)
-not_new Analysing h k = true≢false (sym k)
-not_new (Closed v) h k = true≢false (sym k)
-
 module _ (K : Kind) (L : Lawful K) where
   -- a clause more
   with_clause_tame : (s : State K) → Tame K s → (ls : List ℤ) (b : Bool) → ltb (length s.clauses) most_clauses ≡ true → clause_like ls ≡ true → Tame K (with_clause K s ls b)

@@ -8,7 +8,7 @@ use Rattle.calculus.specs.Lists.{every}
 use Rattle.calculus.specs.Literals.{same, number, distinct, holds_literal}
 use Rattle.calculus.specs.Trails.{Entry, on_trail, false_on}
 use Rattle.calculus.specs.Steps.{others, resolvent}
-use Rattle.calculus.proofs.Testing.{both, every_all, all_every, kept_all, same_refl}
+use Rattle.calculus.proofs.Testing.{both, every_all, all_every, every_append, kept_all, same_refl}
 
 distinct_kept : (p : ℤ → Bool) (ls : List ℤ) → distinct ls ≡ true → distinct (filter p ls) ≡ true
 distinct_kept p [] h = refl
@@ -19,15 +19,11 @@ distinct_kept p (l ∷ ls) h =
     (all_every (λ k. not (eqb (number k) (number l))) (filter p ls) (all_kept_by p (λ k. not (eqb (number k) (number l)) ≡ true) ls (every_all (λ k. not (eqb (number k) (number l))) ls q.0))) (distinct_kept p ls q.1))
     (λ _. distinct_kept p ls q.1)
 
-every_both : (p : ℤ → Bool) (xs ys : List ℤ) → every p xs ≡ true → every p ys ≡ true → every p (xs ++ ys) ≡ true
-every_both p [] ys h k = k
-every_both p (a ∷ xs) ys h k = let q = and_parts (p a) (every p xs) h in and_from (p a) (every p (xs ++ ys)) q.0 (every_both p xs ys q.1 k)
-
 distinct_append : (xs ys : List ℤ) → distinct xs ≡ true → distinct ys ≡ true → AllByRecursion (λ a. every (λ k. not (eqb (number k) (number a))) ys ≡ true) xs → distinct (xs ++ ys) ≡ true
 distinct_append [] ys h k x = k
 distinct_append (a ∷ xs) ys h k x =
     let q = and_parts (every (λ i. not (eqb (number i) (number a))) xs) (distinct xs) h in
-    and_from (every (λ i. not (eqb (number i) (number a))) (xs ++ ys)) (distinct (xs ++ ys)) (every_both (λ i. not (eqb (number i) (number a))) xs ys q.0 x.0) (distinct_append xs ys q.1 k x.1)
+    and_from (every (λ i. not (eqb (number i) (number a))) (xs ++ ys)) (distinct (xs ++ ys)) (every_append (λ i. not (eqb (number i) (number a))) xs ys q.0 x.0) (distinct_append xs ys q.1 k x.1)
 
 -- two literals on one number are the same, or one denies the other
 one_number : (a b : ℤ) → number a ≡ number b → (a ≡ b) ⊎ (b ≡ neg_ℤ a)

@@ -1,10 +1,9 @@
 -- What keeps the guarantees: the invariant, and what it is worth after a clause, an entry, a jump, or a new model.
-use Rattle.std.proofs.Common.{◌≡◌, ℕ, ◌+◌, ◌-◌, ◌<◌, ◌≤◌, Bool, true, false, cond, ◌||◌, ltb, leb, List, [], ◌∷◌, ◌++◌, length, ℤ, neg_ℤ, sym, refl, ap, ◌∙◌, subst, ⊎_elim, arith, length-append}
+use Rattle.std.proofs.Common.{◌≡◌, ℕ, ◌+◌, ◌-◌, ◌<◌, ◌≤◌, Bool, true, false, cond, ◌||◌, ltb, leb, List, [], ◌∷◌, ◌++◌, length, ℤ, neg_ℤ, Ok, sym, refl, ap, ◌∙◌, subst, ⊎_elim, arith, length-append}
 use lib.ListN.{get_or-append}
 use Rattle.std.specs.List.{AllByRecursion}
 use Rattle.std.proofs.ByRecursion.{All-push, All-weaker}
 use Rattle.std.proofs.lemmas.Bool.{true≢false, and_from, or_cases, or_left, or_right, cases_Bool, lt-ltb, leb-true, le-leb, cond_both}
-use Rattle.calculus.specs.declared.Judgement.TheVariants.{Yes}
 use Rattle.calculus.specs.Lists.{every}
 use Rattle.calculus.specs.Literals.{same, number}
 use Rattle.calculus.specs.Limits.{within}
@@ -22,9 +21,9 @@ use Rattle.calculus.proofs.Trailing.{clash, Apart, apart_push, apart_up_to, choi
 use Rattle.calculus.proofs.Meaning.{Known, Given, readable_more, gives_own, by_values_moved}
 
 -- an arrangement that the theory admits and that meets every rule
-abbrev pub Ok : (K : Kind) → K.Model → ℕ → List Stored → Arrangement → Type 0
-Ok K m w rows a =
-    ((length a.switches ≡ w) × (length a.numerators ≡ K.measures m) × (0 < a.denominator)) × (K.admitted m a.numerators a.denominator ≡ Yes)
+abbrev pub Admissible : (K : Kind) → K.Model → ℕ → List Stored → Arrangement → Type 0
+Admissible K m w rows a =
+    ((length a.switches ≡ w) × (length a.numerators ≡ K.measures m) × (0 < a.denominator)) × (K.admitted m a.numerators a.denominator ≡ Ok tt)
     × AllByRecursion (λ r. r.rule ≡ true → meets K m w a r.literals ≡ true) rows
 
 -- it agrees with the choices up to a level
@@ -46,8 +45,8 @@ Sensible K m w d t (Literal l o) = readable K m w t (number l) ≡ true → by_v
 pub record Core (K : Kind) (m : K.Model) (w d : ℕ) (rows : List Stored) (t : List Entry) : Type 0 where
   pub positive : 0 < d
   pub rows_known : AllByRecursion (λ r. every (λ l. within (w + K.atoms m) (number l)) r.literals ≡ true) rows
-  pub follow : (a : Arrangement) → Ok K m w rows a → AllByRecursion (λ r. meets K m w a r.literals ≡ true) rows
-  pub trail : (a : Arrangement) → Ok K m w rows a → AllByRecursion (λ e. Agrees K m w d a t e.level → Keeps K m w d a e.content) t
+  pub follow : (a : Arrangement) → Admissible K m w rows a → AllByRecursion (λ r. meets K m w a r.literals ≡ true) rows
+  pub trail : (a : Arrangement) → Admissible K m w rows a → AllByRecursion (λ e. Agrees K m w d a t e.level → Keeps K m w d a e.content) t
   pub known : AllByRecursion (λ e. Known (w + K.atoms m) (K.measures m) e.content) t
   pub apart : Apart t
   pub levels : AllByRecursion (λ e. e.level ≤ choices t) t
@@ -60,7 +59,7 @@ module _ (K : Kind) (m : K.Model) (w d : ℕ) where
   agrees_lower a t j k l h = All-weaker (λ e. choice e.content ≡ true → e.level ≤ k → Keeps K m w d a e.content) (λ e. choice e.content ≡ true → e.level ≤ j → Keeps K m w d a e.content) (λ e f y z. f y (omega arith)) t h
 
   -- under agreement up to a level, all of that part is kept
-  pub all_kept : (rows : List Stored) (t : List Entry) → Core K m w d rows t → (a : Arrangement) → Ok K m w rows a → (k : ℕ) → Agrees K m w d a t k → AllByRecursion (λ e. Keeps K m w d a e.content) (up_to k t)
+  pub all_kept : (rows : List Stored) (t : List Entry) → Core K m w d rows t → (a : Arrangement) → Admissible K m w rows a → (k : ℕ) → Agrees K m w d a t k → AllByRecursion (λ e. Keeps K m w d a e.content) (up_to k t)
   all_kept rows t h a ok k g =
       up_to_all (λ e. Keeps K m w d a e.content) k t
       (All-weaker (λ e. Agrees K m w d a t e.level → Keeps K m w d a e.content) (λ e. e.level ≤ k → Keeps K m w d a e.content) (λ e f l. f (agrees_lower a t e.level k l g)) t (h.trail a ok))
@@ -108,11 +107,11 @@ clause_before rows r n h =
     )
 
 module _ (K : Kind) (m : K.Model) (w d : ℕ) where
-  pub ok_before : (rows : List Stored) (r : Stored) (a : Arrangement) → Ok K m w (rows ++ r ∷ []) a → Ok K m w rows a
+  pub ok_before : (rows : List Stored) (r : Stored) (a : Arrangement) → Admissible K m w (rows ++ r ∷ []) a → Admissible K m w rows a
   ok_before rows r a h = (h.0, h.1, front (λ q. q.rule ≡ true → meets K m w a q.literals ≡ true) rows r h.2)
 
   pub clause_core : (rows : List Stored) (t : List Entry) (ls : List ℤ) (b : Bool) → Core K m w d rows t → every (λ l. within (w + K.atoms m) (number l)) ls ≡ true
-      → ((a : Arrangement) → Ok K m w (rows ++ record { literals = ls; rule = b } ∷ []) a → meets K m w a ls ≡ true)
+      → ((a : Arrangement) → Admissible K m w (rows ++ record { literals = ls; rule = b } ∷ []) a → meets K m w a ls ≡ true)
       → Core K m w d (rows ++ record { literals = ls; rule = b } ∷ []) t
   clause_core rows t ls b h kn new = record {
     positive = h.positive;
@@ -183,7 +182,7 @@ module _ (K : Kind) (m : K.Model) (w d : ℕ) where
       → ((n : ℕ) → values n c ≡ true → choices t < k)
       → Placed K m w rows (enter t c k) c k
       → AllByRecursion (λ e. Sensible K m w d (enter t c k) e.content) (enter t c k)
-      → ((a : Arrangement) → Ok K m w rows a → Agrees K m w d a (enter t c k) k → Keeps K m w d a c)
+      → ((a : Arrangement) → Admissible K m w rows a → Agrees K m w d a (enter t c k) k → Keeps K m w d a c)
       → Core K m w d rows (enter t c k)
   entry_core rows t c k h kn cl ch un late pl se new = record {
     positive = h.positive;

@@ -14,3 +14,4 @@ pub mod Distinct
 pub mod Soundness
 pub mod Ruling
 pub mod Bounding
+pub mod Refusing

@@ -1,10 +1,9 @@
 -- A new model: what is said of the old atoms stays.
-use Rattle.std.proofs.Common.{◌≡◌, ℕ, ◌+◌, ◌-◌, ◌<◌, ◌≤◌, true, false, cond, not, ◌&&◌, ◌||◌, ltb, leb, ◌⊎◌, List, [], ◌∷◌, map, ℤ, sym, refl, ap, ◌∙◌, subst, inl, inr, ⊎_elim, arith}
+use Rattle.std.proofs.Common.{◌≡◌, ℕ, ◌+◌, ◌-◌, ◌<◌, ◌≤◌, true, false, cond, not, ◌&&◌, ◌||◌, ltb, leb, ◌⊎◌, List, [], ◌∷◌, map, ℤ, Ok, sym, refl, ap, ◌∙◌, subst, inl, inr, ⊎_elim, arith}
 use Rattle.std.specs.List.{range_with_len, AllByRecursion}
 use Rattle.std.proofs.ByRecursion.{All-weaker}
 use Rattle.std.proofs.lemmas.Bool.{and_parts, and_from, and_left, lt-ltb, le-leb, ltb-true, leb-false, cases_Bool, cases_lt, cond-true}
 use Rattle.faults.specs.declared.TheoryFault.{TheoryFault}
-use Rattle.calculus.specs.declared.Judgement.TheVariants.{Yes}
 use Rattle.calculus.specs.Lists.{every, nth}
 use Rattle.calculus.specs.Literals.{number, signed}
 use Rattle.calculus.specs.Limits.{most_measures, within}
@@ -17,7 +16,7 @@ use Rattle.calculus.specs.States.{Stored, holds, meets}
 use Rattle.calculus.specs.Sound.{Keeps}
 use Rattle.calculus.proofs.Testing.{both, within_true, signed_ap}
 use Rattle.calculus.proofs.Meaning.{Known, readable_parts}
-use Rattle.calculus.proofs.Invariant.{Ok, Agrees, Placed, Sensible, Core}
+use Rattle.calculus.proofs.Invariant.{Admissible, Agrees, Placed, Sensible, Core}
 
 -- n says of m's atoms what m says, and admits no more
 pub record Extends (K : Kind) (m n : K.Model) : Type 0 where
@@ -25,7 +24,7 @@ pub record Extends (K : Kind) (m n : K.Model) : Type 0 where
   pub measures : K.measures n ≡ K.measures m
   pub mentioned : (a : ℕ) → 0 < a → a ≤ K.atoms m → K.mentioned n a ≡ K.mentioned m a
   pub truth : (a : ℕ) → 0 < a → a ≤ K.atoms m → K.truth n a ≡ K.truth m a
-  pub admitted : (xs : List ℤ) (d : ℕ) → Whole K m xs d → K.admitted n xs d ≡ Yes → K.admitted m xs d ≡ Yes
+  pub admitted : (xs : List ℤ) (d : ℕ) → Whole K m xs d → K.admitted n xs d ≡ Ok tt → K.admitted m xs d ≡ Ok tt
 
 pub one_more_extends : (K : Kind) (m n : K.Model) → OneMore K m n → Extends K m n
 one_more_extends K m n h = record {
@@ -86,7 +85,7 @@ module _ (K : Kind) (m n : K.Model) (E : Extends K m n) (w : ℕ) where
       let p = and_parts (within (w + K.atoms m) (number l)) (every (λ k. within (w + K.atoms m) (number k)) ls) h in
       ap (λ b. b || meets K n w a ls) (literal_kept a l p.0) ∙ ap (λ b. signed l (holds K m w a) || b) (meets_kept a ls p.1)
 
-  ok_back : (rows : List Stored) (a : Arrangement) → AllByRecursion (λ r. every (λ l. within (w + K.atoms m) (number l)) r.literals ≡ true) rows → Ok K n w rows a → Ok K m w rows a
+  ok_back : (rows : List Stored) (a : Arrangement) → AllByRecursion (λ r. every (λ l. within (w + K.atoms m) (number l)) r.literals ≡ true) rows → Admissible K n w rows a → Admissible K m w rows a
   ok_back rows a kn h =
       let fit = (h.0.1 ∙ E.measures) in (
         (h.0.0, fit, h.0.2),

@@ -5,7 +5,7 @@ use Rattle.std.proofs.ByRecursion.{All-weaker, all_kept_by}
 use Rattle.std.proofs.lemmas.Bool.{true≢false, and_from, not-true, not_from_false, cases_Bool, lt-ltb, le-leb, eqb-false, cond-true, cond-false, cond_both}
 use Rattle.calculus.specs.Literals.{number}
 use Rattle.calculus.specs.Limits.{within}
-use Rattle.calculus.specs.Trails.{Content, Entry, choice, concerns, values, choices}
+use Rattle.calculus.specs.Trails.{Content, Entry, concerns, values}
 use Rattle.calculus.specs.Trails.Content.{Value, Literal}
 use Rattle.calculus.proofs.Testing.{kept_all, within_true}
 use Rattle.calculus.proofs.Trailing.{clash, Apart, Exclusive, values_exclusive, concerns_exclusive}
@@ -65,11 +65,6 @@ room (suc n) t u a k =
     let r = room n t v (apart_kept (λ e. not (concerns (suc n) e.content)) u a)
     (kept_all (λ e. not (concerns (suc n) e.content)) (λ e. Known n t e.content) u (All-weaker (λ e. Known (suc n) t e.content) (λ e. not (concerns (suc n) e.content) ≡ true → Known n t e.content) (λ e. fewer_numbers n t e.content) u k)) in
     omega arith
-
--- and no level passes that
-pub choices_room : (u : List Entry) → choices u ≤ length u
-choices_room [] = omega arith
-choices_room (e ∷ u) = let z = choices_room u in cond_both (choice e.content) 1 0 (λ k. k + choices u ≤ length (e ∷ u)) (λ _. omega arith) (λ _. omega arith)
 
 none_kept : (p : Entry → Bool) (t : List Entry) → AllByRecursion (λ e. p e ≡ false) t → filter p t ≡ []
 none_kept p [] h = refl

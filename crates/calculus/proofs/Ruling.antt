@@ -3,8 +3,6 @@ use Rattle.std.proofs.Common.{◌≡◌, ℕ, ◌+◌, ◌-◌, ◌<◌, ◌≤�
 use Rattle.std.proofs.lemmas.Bool.{and_parts, ltb-true, eqb-true}
 use Rattle.std.specs.List.{AllByRecursion}
 use Rattle.faults.specs.declared.SessionFault.{SessionFault}
-use Rattle.calculus.specs.declared.Judgement.TheVariants.{Yes}
-use Rattle.calculus.specs.declared.Vouching.TheVariants.{Vouched}
 use Rattle.calculus.specs.Lists.{every}
 use Rattle.calculus.specs.Calls.{Call}
 use Rattle.calculus.specs.Calls.Call.{Counts, Declare, Admit, Rule, Seal, Lemma, Choose, Set, Propagate, Read, Conflict, Resolve, Jump, Concede, Claim, Abandon}
@@ -55,7 +53,7 @@ module _ (K : Kind) where
   if_taken s c r Q h = stepped K (λ o. o.0 ≡ Ok r → Q o.1) s (λ f e. not_both f r e) c h
 
   lemma_asks : LemmaAsks K
-  lemma_asks s ls hint r = if_taken s (Lemma ls hint) r (λ _. K.vouched s.model s.switches ls hint ≡ Vouched) (λ _ _ _ _ _ v _. v)
+  lemma_asks s ls hint r = if_taken s (Lemma ls hint) r (λ _. K.vouched s.model s.switches ls hint ≡ Ok tt) (λ _ _ _ _ _ v _. v)
 
   conflict_false : ConflictFalse K
   conflict_false s c r = if_taken s (Conflict c) r (λ _. every (false_on s.trail) (clause s.clauses c) ≡ true) (λ _ _ x _. x)
@@ -69,7 +67,7 @@ module _ (K : Kind) where
     where
       Judged : State K → Type 0
       Judged _ = (r ≡ Handed (arranged K s)) × AllByRecursion (λ c. c.rule ≡ true → meets K s.model s.switches (arranged K s) c.literals ≡ true) s.clauses
-          × (K.admitted s.model (arranged K s).numerators (arranged K s).denominator ≡ Yes)
+          × (K.admitted s.model (arranged K s).numerators (arranged K s).denominator ≡ Ok tt)
 
   jump_lands : Lawful K → JumpLands K
   jump_lands L cs l r =

@@ -22,7 +22,7 @@ use Rattle.calculus.specs.Sound.{Keeps, Guarantees, EveryRunSound}
 use Rattle.calculus.proofs.Testing.{both, last, every_all, within_true, signed_ap, same_true, no_own_denial}
 use Rattle.calculus.proofs.Trailing.{Exclusive, values_exclusive, concerns_exclusive, affirms_concerns, denies_concerns, found, first}
 use Rattle.calculus.proofs.Meaning.{Known}
-use Rattle.calculus.proofs.Invariant.{Ok, Agrees, Sensible, Core, agrees_lower, clause_core, ok_before, up_to_core, count_up_to}
+use Rattle.calculus.proofs.Invariant.{Admissible, Agrees, Sensible, Core, agrees_lower, clause_core, ok_before, up_to_core, count_up_to}
 use Rattle.calculus.proofs.Models.{Extends, one_more_extends, narrower_extends, model_core, count_taken}
 use Rattle.calculus.proofs.Entering.{clause_of, choose_core, force_core, set_core, read_core}
 use Rattle.calculus.proofs.Stepping.{TakenSo, stepped}
@@ -36,8 +36,8 @@ Phased K m w rows t ls New = (rows ≡ []) × (t ≡ []) × (K.atoms m ≡ 0)
 Phased K m w rows t ls Drafting = t ≡ []
 Phased K m w rows t ls Searching = Unit {0}
 Phased K m w rows t ls Analysing = Opened K m w rows t ls
-Phased K m w rows t ls (Closed Impossible) = (a : Arrangement) → Ok K m w rows a → ⊥
-Phased K m w rows t ls (Closed (Possible a)) = Ok K m w rows a
+Phased K m w rows t ls (Closed Impossible) = (a : Arrangement) → Admissible K m w rows a → ⊥
+Phased K m w rows t ls (Closed (Possible a)) = Admissible K m w rows a
 Phased K m w rows t ls (Closed Undecided) = Unit {0}
 
 pub record Held (K : Kind) (s : State K) : Type 0 where

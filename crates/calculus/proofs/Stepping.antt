@@ -1,28 +1,22 @@
 -- A step by cases: it is refused and changes nothing, or its tests hold and it does what it says.
 use Rattle.std.proofs.Common.{◌≡◌, ◌-◌, Bool, true, false, cond, not, ◌&&◌, ◌||◌, eqb, ltb, leb, ◌⊎◌, [], length, Ok, Err, refl, inl, inr}
 use Rattle.std.specs.List.{range_with_len}
-use Rattle.faults.specs.declared.StateCause.TheVariants.{NotVouched, NotAdmitted}
 use Rattle.faults.specs.declared.TheoryFault.{TheoryFault}
-use Rattle.faults.specs.declared.TheoryFault.TheVariants as theory
 use Rattle.faults.specs.declared.SessionFault.{SessionFault}
 use Rattle.faults.specs.declared.SessionFault.TheVariants as session
-use Rattle.calculus.specs.declared.Judgement.{Judgement}
-use Rattle.calculus.specs.declared.Judgement.TheVariants.{Yes, No}
-use Rattle.calculus.specs.declared.Vouching.{Vouching}
-use Rattle.calculus.specs.declared.Vouching.TheVariants.{Vouched, Unvouched, Refused}
 use Rattle.calculus.specs.Lists.{every, some}
 use Rattle.calculus.specs.Limits.{most_numbers, most_literals, most_numerator, most_denominator, within, sized}
 use Rattle.calculus.specs.Literals.{number, proper, clause_like, holds_literal}
 use Rattle.calculus.specs.Calls.{Call}
 use Rattle.calculus.specs.Calls.Call.{Counts, Declare, Admit, Rule, Seal, Lemma, Choose, Set, Propagate, Read, Conflict, Resolve, Jump, Concede, Claim, Abandon}
-use Rattle.calculus.specs.Kinds.{Kind}
+use Rattle.calculus.specs.Kinds.{Kind, Answer}
 use Rattle.calculus.specs.Trails.{false_on, false_at, taken, valued, choices, reason, enter, enter_choice, reading, reading_level}
 use Rattle.calculus.specs.Trails.Origin.{Chosen, Propagated, Read as AsRead}
 use Rattle.calculus.specs.Trails.Content.{Value, Literal}
 use Rattle.calculus.specs.States.{State, is_new, is_drafting, is_searching, is_analysing, clause, meets}
 use Rattle.calculus.specs.States.Phase.{Analysing, Closed}
 use Rattle.calculus.specs.States.Verdict.{Impossible, Possible, Undecided}
-use Rattle.calculus.specs.Steps.{Reply, Outcome, need, asked, if_vouched, if_admitted, there, has_room, readable_in, bears, denial, top_of, arranged, drafted, sealed, with_model, with_atom, with_clause, with_trail, turned, forced, split, literal_on, others, others_false, resolvent, all_read, step}
+use Rattle.calculus.specs.Steps.{Reply, Outcome, need, asked, if_agreed, there, has_room, readable_in, bears, denial, top_of, arranged, drafted, sealed, with_model, with_atom, with_clause, with_trail, turned, forced, split, literal_on, others, others_false, resolvent, all_read, step}
 use Rattle.calculus.specs.Steps.Reply.{Done, Handed}
 
 module _ (K : Kind) (P : Outcome K → Type 0) (s : State K) where
@@ -33,7 +27,7 @@ module _ (K : Kind) (P : Outcome K → Type 0) (s : State K) where
   TakenSo (Admit body) = (is_drafting s.phase || is_searching s.phase) ≡ true → ltb s.numbers most_numbers ≡ true → (n : K.Model) → K.admit s.model body ≡ inr n → P (Ok Done, with_atom K s n)
   TakenSo (Rule ls) = is_drafting s.phase ≡ true → has_room K s ≡ true → every proper ls ≡ true → clause_like ls ≡ true → every (λ l. there K s (number l)) ls ≡ true → P (Ok Done, with_clause K s ls true)
   TakenSo (Seal d) = is_drafting s.phase ≡ true → within most_denominator d ≡ true → P (Ok Done, sealed K s d)
-  TakenSo (Lemma ls hint) = is_searching s.phase ≡ true → has_room K s ≡ true → every proper ls ≡ true → clause_like ls ≡ true → every (λ l. there K s (number l)) ls ≡ true → K.vouched s.model s.switches ls hint ≡ Vouched → P (Ok Done, with_clause K s ls false)
+  TakenSo (Lemma ls hint) = is_searching s.phase ≡ true → has_room K s ≡ true → every proper ls ≡ true → clause_like ls ≡ true → every (λ l. there K s (number l)) ls ≡ true → K.vouched s.model s.switches ls hint ≡ Ok tt → P (Ok Done, with_clause K s ls false)
   TakenSo (Choose l) = is_searching s.phase ≡ true → proper l ≡ true → there K s (number l) ≡ true → not (taken (number l) s.trail) ≡ true → not (readable_in K s (number l)) ≡ true → P (Ok Done, with_trail K s (enter_choice s.trail (Literal l Chosen)))
   TakenSo (Set j x) = is_searching s.phase ≡ true → (within (K.measures s.model) j && sized most_numerator x) ≡ true → not (valued j s.trail) ≡ true → bears K s (enter_choice s.trail (Value j x)) ≡ true → P (Ok Done, with_trail K s (enter_choice s.trail (Value j x)))
   TakenSo (Propagate c l) =
@@ -55,7 +49,7 @@ module _ (K : Kind) (P : Outcome K → Type 0) (s : State K) where
   TakenSo Claim =
       is_searching s.phase ≡ true → every (λ j. valued j s.trail) (range_with_len 1 (K.measures s.model)) ≡ true
       → every (λ r. not r.rule || meets K s.model s.switches (arranged K s) r.literals) s.clauses ≡ true
-      → K.admitted s.model (arranged K s).numerators (arranged K s).denominator ≡ Yes → P (Ok (Handed (arranged K s)), turned K s (Closed (Possible (arranged K s))) [])
+      → K.admitted s.model (arranged K s).numerators (arranged K s).denominator ≡ Ok tt → P (Ok (Handed (arranged K s)), turned K s (Closed (Possible (arranged K s))) [])
   TakenSo Abandon = (is_searching s.phase || is_analysing s.phase) ≡ true → P (Ok Done, turned K s (Closed Undecided) [])
 
   module _ (refused : (f : SessionFault) → P (Err f, s)) where
@@ -67,14 +61,9 @@ module _ (K : Kind) (P : Outcome K → Type 0) (s : State K) where
     by_theory (inl f) next h = refused (session.Theory f)
     by_theory (inr n) next h = h n refl
 
-    by_vouching : (v : Vouching) (next : State K) → (v ≡ Vouched → P (Ok Done, next)) → P (if_vouched K v s next)
-    by_vouching Vouched next h = h refl
-    by_vouching (Unvouched i) next h = refused (session.Theory (theory.State NotVouched i))
-    by_vouching (Refused f) next h = refused (session.Theory f)
-
-    by_judgement : (j : Judgement) (r : Reply) (next : State K) → (j ≡ Yes → P (Ok r, next)) → P (if_admitted K j s r next)
-    by_judgement Yes r next h = h refl
-    by_judgement (No i) r next h = refused (session.Theory (theory.State NotAdmitted i))
+    by_answer : (a : Answer) (r : Reply) (next : State K) → (a ≡ Ok tt → P (Ok r, next)) → P (if_agreed K a s r next)
+    by_answer (Ok u) r next h = h refl
+    by_answer (Err f) r next h = refused (session.Theory f)
 
     either_way : (b : Bool) (o p : Outcome K) → (b ≡ true → P o) → (b ≡ false → P p) → P (cond b o p)
     either_way true o p h k = h refl
@@ -89,7 +78,7 @@ module _ (K : Kind) (P : Outcome K → Type 0) (s : State K) where
     stepped (Seal d) h = tested (is_drafting s.phase) _ _ λ a. tested (within most_denominator d) _ _ λ b. h a b
     stepped (Lemma ls hint) h =
         tested (is_searching s.phase) _ _ λ a. tested (has_room K s) _ _ λ b. tested (every proper ls) _ _ λ c. tested (clause_like ls) _ _ λ d. tested (every (λ l. there K s (number l)) ls) _ _ λ e.
-        by_vouching (K.vouched s.model s.switches ls hint) (with_clause K s ls false) (h a b c d e)
+        by_answer (K.vouched s.model s.switches ls hint) Done (with_clause K s ls false) (h a b c d e)
     stepped (Choose l) h =
         tested (is_searching s.phase) _ _ λ a. tested (proper l) _ _ λ b. tested (there K s (number l)) _ _ λ c. tested (not (taken (number l) s.trail)) _ _ λ d. tested (not (readable_in K s (number l))) _ _ λ e. h a b c d e
     stepped (Set j x) h =
@@ -113,5 +102,5 @@ module _ (K : Kind) (P : Outcome K → Type 0) (s : State K) where
     stepped Claim h =
         tested (is_searching s.phase) _ _ λ a. tested (every (λ j. valued j s.trail) (range_with_len 1 (K.measures s.model))) _ _ λ b.
         tested (every (λ r. not r.rule || meets K s.model s.switches (arranged K s) r.literals) s.clauses) _ _ λ c.
-        by_judgement (K.admitted s.model (arranged K s).numerators (arranged K s).denominator) _ _ (h a b c)
+        by_answer (K.admitted s.model (arranged K s).numerators (arranged K s).denominator) _ _ (h a b c)
     stepped Abandon h = tested (is_searching s.phase || is_analysing s.phase) _ _ λ a. h a

@@ -1,20 +1,28 @@
 -- What a theory is, and the laws that it keeps.
-use Rattle.std.specs.Prelude.{◌≡◌, ℕ, ◌+◌, ◌-◌, ◌<◌, ◌≤◌, Bool, true, false, cond, ◌⊎◌, ◌↔◌, List, [], length, ℤ, pos, nat_le}
+use Rattle.std.specs.Prelude.{◌≡◌, ℕ, ◌+◌, ◌-◌, ◌<◌, ◌≤◌, Bool, true, false, cond, ◌⊎◌, ◌↔◌, List, [], length, ℤ, pos, Ok, Err, Result, nat_le}
 use Rattle.std.proofs.Common.{inl, inr}
 use Rattle.faults.specs.declared.InputCause.{InputCause}
 use Rattle.faults.specs.declared.InputCause.TheVariants.{WrongLength, OutOfRange}
-use Rattle.faults.specs.declared.StateCause.TheVariants.{WrongPhase}
+use Rattle.faults.specs.declared.StateCause.TheVariants.{WrongPhase, NotVouched, NotAdmitted}
 use Rattle.faults.specs.declared.TheoryFault.{TheoryFault}
 use Rattle.faults.specs.declared.TheoryFault.TheVariants as theory
 use Rattle.faults.specs.Causes.{theory_code}
-use Rattle.calculus.specs.declared.Judgement.{Judgement}
-use Rattle.calculus.specs.declared.Judgement.TheVariants.{Yes, No}
-use Rattle.calculus.specs.declared.Vouching.{Vouching}
-use Rattle.calculus.specs.declared.Vouching.TheVariants.{Vouched, Unvouched, Refused}
 use Rattle.calculus.specs.Lists.{every, some, nth}
 use Rattle.calculus.specs.Limits.{most_measures, most_layers, within}
 use Rattle.calculus.specs.Literals.{number, signed}
 use Rattle.calculus.specs.Arrangements.{SameFraction}
+
+-- What a theory answers to a question: yes, or the fault that says no and from which layer.
+abbrev pub Answer : Type 0
+Answer = Result (Unit {0}) TheoryFault
+
+-- the layer does not admit the values
+abbrev pub not_admitted : ℕ → Answer
+not_admitted layer = Err (theory.State NotAdmitted layer)
+
+-- the layer does not vouch for the clause
+abbrev pub not_vouched : ℕ → Answer
+not_vouched layer = Err (theory.State NotVouched layer)
 
 -- A kind of theory: its models, the model that it begins with, what its calls make of a model (a refusal,
 -- after which it is the old one, or a new one), and what a model means.
@@ -36,11 +44,11 @@ pub record Kind : Type 1 where
   -- the atom is true where the measures are these numerators over this denominator
   pub truth : Model → ℕ → List ℤ → ℕ → Bool
   -- an arrangement with these numerators over this denominator is admitted, whatever its switches; or else which layer says no
-  pub admitted : Model → List ℤ → ℕ → Judgement
+  pub admitted : Model → List ℤ → ℕ → Answer
   -- it answers that the atom says that two measures are equal
   pub equated : Model → ℕ → ℕ → ℕ → Bool
   -- what it answers to a clause with a hint, where the numbers up to the first argument are switches
-  pub vouched : Model → ℕ → List ℤ → List ℕ → Vouching
+  pub vouched : Model → ℕ → List ℤ → List ℕ → Answer
 
 -- refused with this cause in the input, in some layer
 abbrev pub RefusedFor : {M : Type 0} → InputCause → TheoryFault ⊎ M → Type 0
@@ -88,7 +96,7 @@ pub record Narrower (K : Kind) (m n : K.Model) : Type 0 where
   pub atoms : K.atoms n ≡ K.atoms m
   pub mentioned : K.mentioned n ≡ K.mentioned m
   pub truth : K.truth n ≡ K.truth m
-  pub admitted : (xs : List ℤ) (d : ℕ) → Whole K m xs d → K.admitted n xs d ≡ Yes → K.admitted m xs d ≡ Yes
+  pub admitted : (xs : List ℤ) (d : ℕ) → Whole K m xs d → K.admitted n xs d ≡ Ok tt → K.admitted m xs d ≡ Ok tt
 
 -- The laws. They range over all models and over arrangements of any size.
 pub record Lawful (K : Kind) : Type 0 where
@@ -108,14 +116,14 @@ pub record Lawful (K : Kind) : Type 0 where
   -- an empty body or hint is refused
   pub declare_empty : (m : K.Model) → RefusedFor WrongLength (K.declare m [])
   pub admit_empty : (m : K.Model) → RefusedFor WrongLength (K.admit m [])
-  pub vouch_empty : (m : K.Model) (s : ℕ) (clause : List ℤ) → (layer : ℕ) × (K.vouched m s clause [] ≡ Refused (theory.Input WrongLength layer))
+  pub vouch_empty : (m : K.Model) (s : ℕ) (clause : List ℤ) → (layer : ℕ) × (K.vouched m s clause [] ≡ Err (theory.Input WrongLength layer))
   -- what says no is a layer of the pile
   pub count_layer : (m : K.Model) (t : ℕ) (f : TheoryFault) → K.count m t ≡ inl f → InPile (theory_code f).layer
   pub declare_layer : (m : K.Model) (body : List ℕ) (f : TheoryFault) → K.declare m body ≡ inl f → InPile (theory_code f).layer
   pub admit_layer : (m : K.Model) (body : List ℕ) (f : TheoryFault) → K.admit m body ≡ inl f → InPile (theory_code f).layer
-  pub admitted_layer : (m : K.Model) (xs : List ℤ) (d layer : ℕ) → K.admitted m xs d ≡ No layer → InPile layer
-  pub unvouched_layer : (m : K.Model) (s : ℕ) (clause : List ℤ) (hint : List ℕ) (layer : ℕ) → K.vouched m s clause hint ≡ Unvouched layer → InPile layer
-  pub hint_layer : (m : K.Model) (s : ℕ) (clause : List ℤ) (hint : List ℕ) (f : TheoryFault) → K.vouched m s clause hint ≡ Refused f → InPile (theory_code f).layer
+  pub vouched_layer : (m : K.Model) (s : ℕ) (clause : List ℤ) (hint : List ℕ) (f : TheoryFault) → K.vouched m s clause hint ≡ Err f → InPile (theory_code f).layer
+  -- and what is not admitted is told as that
+  pub admitted_layer : (m : K.Model) (xs : List ℤ) (d : ℕ) (f : TheoryFault) → K.admitted m xs d ≡ Err f → (layer : ℕ) × (f ≡ theory.State NotAdmitted layer) × InPile layer
   -- arrangements with equal fractions for the measures that an atom mentions agree on it
   pub local : (m : K.Model) (a : ℕ) (xs ys : List ℤ) (d e : ℕ) → Whole K m xs d → Whole K m ys e
       → ((j : ℕ) → 0 < j → j ≤ K.measures m → K.mentioned m a j ≡ true → SameFraction (nth (pos 0) xs j) d (nth (pos 0) ys j) e)
@@ -123,7 +131,7 @@ pub record Lawful (K : Kind) : Type 0 where
   -- arrangements with equal fractions for all measures agree on being admitted
   pub fair : (m : K.Model) (xs ys : List ℤ) (d e : ℕ) → Whole K m xs d → Whole K m ys e
       → ((j : ℕ) → 0 < j → j ≤ K.measures m → SameFraction (nth (pos 0) xs j) d (nth (pos 0) ys j) e)
-      → K.admitted m xs d ≡ Yes → K.admitted m ys e ≡ Yes
+      → K.admitted m xs d ≡ Ok tt → K.admitted m ys e ≡ Ok tt
   -- an atom that is not there mentions nothing and is true nowhere
   pub absent_mentions : (m : K.Model) (a j : ℕ) → within (K.atoms m) a ≡ false → 0 < j → K.mentioned m a j ≡ false
   pub absent_false : (m : K.Model) (a : ℕ) (xs : List ℤ) (d : ℕ) → within (K.atoms m) a ≡ false → K.truth m a xs d ≡ false
@@ -132,6 +140,6 @@ pub record Lawful (K : Kind) : Type 0 where
   pub equating : (m : K.Model) (a i j : ℕ) → K.equated m a i j ≡ true → (xs : List ℤ) (d : ℕ) → Whole K m xs d
       → (K.truth m a xs d ≡ true) ↔ (nth (pos 0) xs i ≡ nth (pos 0) xs j)
   -- a clause is vouched for only if all that it names is there, and every admitted arrangement makes one of its atom literals true
-  pub vouched_there : (m : K.Model) (s : ℕ) (clause : List ℤ) (hint : List ℕ) → K.vouched m s clause hint ≡ Vouched → all_there K m s clause ≡ true
-  pub vouching : (m : K.Model) (s : ℕ) (clause : List ℤ) (hint : List ℕ) → K.vouched m s clause hint ≡ Vouched → (xs : List ℤ) (d : ℕ) → Whole K m xs d
-      → K.admitted m xs d ≡ Yes → some_atom K m s xs d clause ≡ true
+  pub vouched_there : (m : K.Model) (s : ℕ) (clause : List ℤ) (hint : List ℕ) → K.vouched m s clause hint ≡ Ok tt → all_there K m s clause ≡ true
+  pub vouching : (m : K.Model) (s : ℕ) (clause : List ℤ) (hint : List ℕ) → K.vouched m s clause hint ≡ Ok tt → (xs : List ℤ) (d : ℕ) → Whole K m xs d
+      → K.admitted m xs d ≡ Ok tt → some_atom K m s xs d clause ≡ true

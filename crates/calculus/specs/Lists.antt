@@ -1,13 +1,12 @@
 -- Words on lists.
-use Rattle.std.specs.Prelude.{ℕ, zero, suc, max, Bool, true, false, ◌&&◌, ◌||◌, List, [], ◌∷◌, slice_index_or}
+use Rattle.std.specs.Prelude.{ℕ, zero, suc, max, Bool, List, [], ◌∷◌, slice_index_or}
+use Rattle.std.specs.List.{list_all, list_any}
 
 abbrev pub every : {X : Type 0} → (X → Bool) → List X → Bool
-every p [] = true
-every p (x ∷ xs) = p x && every p xs
+every p xs = list_all p xs
 
 abbrev pub some : {X : Type 0} → (X → Bool) → List X → Bool
-some p [] = false
-some p (x ∷ xs) = p x || some p xs
+some p xs = list_any p xs
 
 -- the highest number that f gives, or 0
 abbrev pub highest : {X : Type 0} → (X → ℕ) → List X → ℕ

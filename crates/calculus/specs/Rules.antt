@@ -2,8 +2,6 @@
 use Rattle.std.specs.Prelude.{◌≡◌, ℕ, ◌+◌, ◌<◌, true, ◌⊎◌, List, length, ℤ, Ok, Err}
 use Rattle.std.specs.List.{AllByRecursion}
 use Rattle.faults.specs.declared.SessionFault.{SessionFault}
-use Rattle.calculus.specs.declared.Judgement.TheVariants.{Yes}
-use Rattle.calculus.specs.declared.Vouching.TheVariants.{Vouched}
 use Rattle.calculus.specs.Lists.{every}
 use Rattle.calculus.specs.Calls.{Call}
 use Rattle.calculus.specs.Calls.Call.{Lemma, Read, Conflict, Jump, Claim}
@@ -22,7 +20,7 @@ module _ (K : Kind) where
 
   -- a lemma is taken only if the theory vouches for it
   abbrev pub LemmaAsks : Type 0
-  LemmaAsks = (s : State K) (ls : List ℤ) (hint : List ℕ) (r : Reply) → (step K s (Lemma ls hint)).0 ≡ Ok r → K.vouched s.model s.switches ls hint ≡ Vouched
+  LemmaAsks = (s : State K) (ls : List ℤ) (hint : List ℕ) (r : Reply) → (step K s (Lemma ls hint)).0 ≡ Ok r → K.vouched s.model s.switches ls hint ≡ Ok tt
 
   -- a conflict is taken only if every literal of its clause is false
   abbrev pub ConflictFalse : Type 0
@@ -37,7 +35,7 @@ module _ (K : Kind) where
   abbrev pub ClaimJudges : Type 0
   ClaimJudges = (s : State K) (r : Reply) → (step K s Claim).0 ≡ Ok r
       → (r ≡ Handed (arranged K s)) × AllByRecursion (λ c. c.rule ≡ true → meets K s.model s.switches (arranged K s) c.literals ≡ true) s.clauses
-      × (K.admitted s.model (arranged K s).numerators (arranged K s).denominator ≡ Yes)
+      × (K.admitted s.model (arranged K s).numerators (arranged K s).denominator ≡ Ok tt)
 
   -- A jump from a state that calls lead to leaves no entry above its target, and enters its literal last. Where no other
   -- literal of the open clause has the top level, the target is the next highest level, at which the literal stands with the clause

@@ -1,7 +1,6 @@
 -- The law of the calculus: what holds of every state that calls lead to, over every lawful theory.
 use Rattle.std.specs.Prelude.{◌≡◌, ℕ, ◌<◌, ◌≤◌, true, List, length, ℤ, pos, neg_ℤ, Ok, filter, ◌≢◌}
 use Rattle.std.specs.List.{ContainsAt as Has, AllByRecursion}
-use Rattle.calculus.specs.declared.Judgement.TheVariants.{Yes}
 use Rattle.calculus.specs.Lists.{nth}
 use Rattle.calculus.specs.Literals.{number, signed}
 use Rattle.calculus.specs.Calls.{Call}
@@ -27,7 +26,7 @@ module _ (K : Kind) (s : State K) (a : Arrangement) where
 
   -- the theory admits it, and it meets every rule
   abbrev pub Allowed : Type 0
-  Allowed = Fits × (K.admitted s.model a.numerators a.denominator ≡ Yes) × AllByRecursion (λ r. r.rule ≡ true → meets K s.model s.switches a r.literals ≡ true) s.clauses
+  Allowed = Fits × (K.admitted s.model a.numerators a.denominator ≡ Ok tt) × AllByRecursion (λ r. r.rule ≡ true → meets K s.model s.switches a r.literals ≡ true) s.clauses
 
   -- it agrees with the choices up to the level k
   abbrev pub Agrees : ℕ → Type 0

@@ -4,22 +4,17 @@ use Rattle.std.specs.Prelude.{ℕ, ◌+◌, ◌-◌, Bool, true, false, cond, no
 use Rattle.std.proofs.Common.{inl, inr}
 use Rattle.std.specs.List.{range_with_len}
 use Rattle.faults.specs.declared.InputCause.TheVariants.{OutOfRange, BadLiteral, BadClause}
-use Rattle.faults.specs.declared.StateCause.TheVariants.{WrongPhase, Full, Absent, Taken, WrongReadability, NotUnit, ContradictsTrail, NotFalse, NotResolvable, ResolventTooLong, NotAllowed, NotVouched, NoValue, RuleUnmet, NotAdmitted}
+use Rattle.faults.specs.declared.StateCause.TheVariants.{WrongPhase, Full, Absent, Taken, WrongReadability, NotUnit, ContradictsTrail, NotFalse, NotResolvable, ResolventTooLong, NotAllowed, NoValue, RuleUnmet}
 use Rattle.faults.specs.declared.TheoryFault.{TheoryFault}
-use Rattle.faults.specs.declared.TheoryFault.TheVariants as theory
 use Rattle.faults.specs.declared.SessionFault.{SessionFault}
 use Rattle.faults.specs.declared.SessionFault.TheVariants as session
-use Rattle.calculus.specs.declared.Judgement.{Judgement}
-use Rattle.calculus.specs.declared.Judgement.TheVariants.{Yes, No}
-use Rattle.calculus.specs.declared.Vouching.{Vouching}
-use Rattle.calculus.specs.declared.Vouching.TheVariants.{Vouched, Unvouched, Refused}
 use Rattle.calculus.specs.Lists.{every, some, highest}
 use Rattle.calculus.specs.Limits.{most_numbers, most_clauses, most_literals, most_numerator, most_denominator, within, sized}
 use Rattle.calculus.specs.Literals.{same, number, proper, clause_like, holds_literal}
 use Rattle.calculus.specs.Calls.{Call}
 use Rattle.calculus.specs.Calls.Call.{Counts, Declare, Admit, Rule, Seal, Lemma, Choose, Set, Propagate, Read, Conflict, Resolve, Jump, Concede, Claim, Abandon}
 use Rattle.calculus.specs.Arrangements.{Arrangement}
-use Rattle.calculus.specs.Kinds.{Kind}
+use Rattle.calculus.specs.Kinds.{Kind, Answer}
 use Rattle.calculus.specs.Trails.{Entry, entry_for, affirms, was_read, reason, on_trail, false_on, false_at, taken, valued, choices, up_to, enter, enter_choice, readable, reading_level, numerators, reading, stays_true}
 use Rattle.calculus.specs.Trails.Origin.{Chosen, Propagated, Read as AsRead}
 use Rattle.calculus.specs.Trails.Content.{Value, Literal}
@@ -67,14 +62,10 @@ module _ (K : Kind) where
   asked (inl f) s next = (Err (session.Theory f), s)
   asked (inr m) s next = (Ok Done, next m)
 
-  abbrev pub if_vouched : Vouching → State K → State K → Outcome
-  if_vouched Vouched s next = (Ok Done, next)
-  if_vouched (Unvouched layer) s next = (Err (session.Theory (theory.State NotVouched layer)), s)
-  if_vouched (Refused f) s next = (Err (session.Theory f), s)
-
-  abbrev pub if_admitted : Judgement → State K → Reply → State K → Outcome
-  if_admitted Yes s reply next = (Ok reply, next)
-  if_admitted (No layer) s reply next = (Err (session.Theory (theory.State NotAdmitted layer)), s)
+  -- go on where the theory says yes; else refuse with its fault and change nothing
+  abbrev pub if_agreed : Answer → State K → Reply → State K → Outcome
+  if_agreed (Ok u) s reply next = (Ok reply, next)
+  if_agreed (Err f) s reply next = (Err (session.Theory f), s)
 
   -- one of the numbers in use
   abbrev pub there : State K → ℕ → Bool
@@ -167,7 +158,7 @@ module _ (K : Kind) where
       (need (every proper ls) (session.Input BadLiteral) s
       (need (clause_like ls) (session.Input BadClause) s
       (need (every (λ l. there s (number l)) ls) (session.State Absent) s
-      (if_vouched (K.vouched s.model s.switches ls hint) s (with_clause s ls false))))))
+      (if_agreed (K.vouched s.model s.switches ls hint) s Done (with_clause s ls false))))))
   step s (Choose l) =
       need (is_searching s.phase) (session.State WrongPhase) s
       (need (proper l) (session.Input BadLiteral) s
@@ -235,7 +226,7 @@ module _ (K : Kind) where
       need (is_searching s.phase) (session.State WrongPhase) s
       (need (every (λ j. valued j s.trail) (range_with_len 1 (K.measures s.model))) (session.State NoValue) s
       (need (every (λ r. not r.rule || meets K s.model s.switches a r.literals) s.clauses) (session.State RuleUnmet) s
-      (if_admitted (K.admitted s.model a.numerators a.denominator) s (Handed a) (turned s (Closed (Possible a)) []))))
+      (if_agreed (K.admitted s.model a.numerators a.denominator) s (Handed a) (turned s (Closed (Possible a)) []))))
   step s Abandon =
       need (is_searching s.phase || is_analysing s.phase) (session.State WrongPhase) s
       (Ok Done, turned s (Closed Undecided) [])

@@ -14,22 +14,6 @@ use faults::TheoryFault;
 
 pub mod limits;
 
-// Whether values are admitted; else the layer of the pile that says no.
-#[derive(Clone, Copy, PartialEq, Eq, Debug)]
-pub enum Judgement {
-    Yes,
-    No(u8),
-}
-
-// What a theory answers to a clause with a hint: it vouches for the clause, or the layer that says no
-// says so, or the hint itself is refused.
-#[derive(Clone, Copy)]
-pub enum Vouching {
-    Vouched,
-    Unvouched(u8),
-    Refused(TheoryFault),
-}
-
 // A theory, or a pile of theories. It numbers its own atoms from 1, and is told the count of switches
 // with a clause: there the number of an atom is that count more. No question changes the theory.
 pub trait Theory: Sized {
@@ -77,16 +61,17 @@ pub trait Theory: Sized {
     fn holds(&self, atom: u8, numerators: &[i32], denominator: u32) -> bool
         ensures { result ≡ says_true kind (model self.now) atom numerators.now denominator };
 
-    // Whether these values are admitted.
-    fn admits(&self, numerators: &[i32], denominator: u32) -> Judgement
+    // Whether these values are admitted; else it is told which layer does not admit them.
+    fn admits(&self, numerators: &[i32], denominator: u32) -> Result<(), TheoryFault>
         ensures { result ≡ says_admitted kind (model self.now) numerators.now denominator };
 
     // Whether the atom says that two measures are equal.
     fn equates(&self, atom: u8, i: u8, j: u8) -> bool
         ensures { result ≡ kind.equated (model self.now) atom i j };
 
-    // Whether one of the clause's atom literals is true in every arrangement that is admitted, as the hint tells.
-    fn vouches(&self, switches: u8, clause: &[i8], hint: &[u8]) -> Vouching
+    // Whether one of the clause's atom literals is true in every arrangement that is admitted, as the hint
+    // tells; else it is told which layer does not vouch for it, or why the hint itself is refused.
+    fn vouches(&self, switches: u8, clause: &[i8], hint: &[u8]) -> Result<(), TheoryFault>
         ensures { result ≡ kind.vouched (model self.now) switches clause.now hint.now };
 
     ghost lawful: { Lawful kind };
@@ -96,10 +81,8 @@ pub trait Theory: Sized {
 }
 
 // The law of the calculus, for every lawful theory: what holds after every list of calls.
-pub fn law<T: Theory>() -> u8
+pub fn law<T: Theory>()
     ensures sound { EveryRunSound T.Theory.kind }
     ensures bounded { EveryRunBounded T.Theory.kind }
     ensures rules { RulesHold T.Theory.kind }
-{
-    0
-}
+{}

@@ -4,7 +4,6 @@
 ghost use Rattle.std.specs.Prelude.{◌≡◌, ℕ, Bool, true, not, ◌&&◌, ◌||◌, ℤ, pos, nat_lt};
 ghost use Rattle.std.specs.List.{range_with_len};
 ghost use Rattle.calculus.specs.Lists.{every};
-ghost use Rattle.calculus.specs.Limits.{most_denominator, within};
 ghost use Rattle.calculus.specs.Literals.{signed};
 ghost use Rattle.calculus.specs.Trails.{on_trail, valued};
 ghost use Rattle.calculus.specs.States.{holds, meets};
@@ -12,7 +11,7 @@ ghost use Rattle.tables.specs.Tables.{trail_of, stored_of, store_of};
 ghost use Rattle.claims.specs.Arranging.{arrangement};
 
 use calculus::Theory;
-use readings::is_true;
+use readings::Reading;
 use tables::store::{Row, Store};
 use tables::trail::Trail;
 
@@ -23,12 +22,7 @@ pub fn are_valued<T: Theory>(theory: &T, trail: &Trail) -> bool
     ensures { result ≡ every (λ j. valued j (trail_of trail.now)) (range_with_len 1 (T.Theory.kind.measures (T.Theory.model theory.now))) }
 {
     let measures = theory.measures();
-    for i in 0..measures {
-        if !trail.is_valued(i + 1) {
-            return false;
-        }
-    }
-    true
+    (1..measures + 1).all(|j| trail.is_valued(j))
 }
 
 // The literal is true where the numbers that the trail affirms are.
@@ -42,86 +36,43 @@ fn is_affirmed(trail: &Trail, literal: i8) -> bool
     }
 }
 
-// The literal is true in the arrangement that the trail makes.
-fn is_literal_met<T: Theory>(
-    theory: &T,
-    switches: u8,
-    denominator: u32,
-    trail: &Trail,
-    literal: i8,
-) -> bool
-    requires { within most_denominator denominator ≡ true }
-    ensures { result ≡ signed literal (holds T.Theory.kind (T.Theory.model theory.now) switches (arrangement T.Theory.kind (T.Theory.model theory.now) switches denominator (trail_of trail.now))) }
-{
-    if literal.unsigned_abs() <= switches {
-        is_affirmed(trail, literal)
-    } else {
-        is_true(theory, switches, denominator, trail, literal)
-    }
+// A trail, read as an arrangement: a switch that it does not affirm counts as no.
+#[derive(Drop)]
+pub struct Claim<'a, T> {
+    pub reading: Reading<'a, T>,
+    pub trail: &'a Trail,
 }
 
-// The arrangement that the trail makes meets the clause.
-fn is_met<T: Theory>(
-    theory: &T,
-    switches: u8,
-    denominator: u32,
-    trail: &Trail,
-    clause: &[i8],
-) -> bool
-    requires { within most_denominator denominator ≡ true }
-    ensures { result ≡ meets T.Theory.kind (T.Theory.model theory.now) switches (arrangement T.Theory.kind (T.Theory.model theory.now) switches denominator (trail_of trail.now)) clause.now }
-{
-    for k in clause {
-        if is_literal_met(theory, switches, denominator, trail, *k) {
-            return true;
+impl<T: Theory> Claim<'_, T> {
+    // The literal is true in the arrangement that the trail makes.
+    fn is_literal_met(&self, literal: i8) -> bool
+        ensures { result ≡ signed literal (holds T.Theory.kind (T.Theory.model self.now.reading.atoms.theory.now) self.now.reading.atoms.switches (arrangement T.Theory.kind (T.Theory.model self.now.reading.atoms.theory.now) self.now.reading.atoms.switches self.now.reading.denominator (trail_of self.now.trail.now))) }
+    {
+        if literal.unsigned_abs() <= self.reading.atoms.switches {
+            is_affirmed(self.trail, literal)
+        } else {
+            self.reading.is_true(self.trail, literal)
         }
     }
-    false
-}
 
-// The row is no rule, or its clause is met.
-fn is_row_met<T: Theory>(
-    theory: &T,
-    switches: u8,
-    denominator: u32,
-    trail: &Trail,
-    row: &Row,
-) -> bool
-    requires { within most_denominator denominator ≡ true }
-    ensures { result ≡ (not (stored_of row.now).rule || meets T.Theory.kind (T.Theory.model theory.now) switches (arrangement T.Theory.kind (T.Theory.model theory.now) switches denominator (trail_of trail.now)) (stored_of row.now).literals) }
-{
-    !row.is_rule() || is_met(theory, switches, denominator, trail, row.literals())
-}
-
-// Each of the rows is no rule, or met.
-fn are_rows_met<T: Theory>(
-    theory: &T,
-    switches: u8,
-    denominator: u32,
-    trail: &Trail,
-    rows: &[Row],
-) -> bool
-    requires { within most_denominator denominator ≡ true }
-    ensures { result ≡ every (λ x. not (stored_of x).rule || meets T.Theory.kind (T.Theory.model theory.now) switches (arrangement T.Theory.kind (T.Theory.model theory.now) switches denominator (trail_of trail.now)) (stored_of x).literals) rows.now }
-{
-    for row in rows {
-        if !is_row_met(theory, switches, denominator, trail, row) {
-            return false;
-        }
+    // The arrangement that the trail makes meets the clause.
+    fn is_met(&self, clause: &[i8]) -> bool
+        ensures { result ≡ meets T.Theory.kind (T.Theory.model self.now.reading.atoms.theory.now) self.now.reading.atoms.switches (arrangement T.Theory.kind (T.Theory.model self.now.reading.atoms.theory.now) self.now.reading.atoms.switches self.now.reading.denominator (trail_of self.now.trail.now)) clause.now }
+    {
+        clause.iter().any(|k| self.is_literal_met(*k))
     }
-    true
-}
 
-// The arrangement that the trail makes meets every rule of the store.
-pub fn are_rules_met<T: Theory>(
-    theory: &T,
-    switches: u8,
-    denominator: u32,
-    trail: &Trail,
-    store: &Store,
-) -> bool
-    requires { within most_denominator denominator ≡ true }
-    ensures { result ≡ every (λ x. not x.rule || meets T.Theory.kind (T.Theory.model theory.now) switches (arrangement T.Theory.kind (T.Theory.model theory.now) switches denominator (trail_of trail.now)) x.literals) (store_of store.now) }
-{
-    are_rows_met(theory, switches, denominator, trail, store.rows())
+    // The row is no rule, or its clause is met.
+    fn is_row_met(&self, row: &Row) -> bool
+        ensures { result ≡ (not (stored_of row.now).rule || meets T.Theory.kind (T.Theory.model self.now.reading.atoms.theory.now) self.now.reading.atoms.switches (arrangement T.Theory.kind (T.Theory.model self.now.reading.atoms.theory.now) self.now.reading.atoms.switches self.now.reading.denominator (trail_of self.now.trail.now)) (stored_of row.now).literals) }
+    {
+        !row.is_rule() || self.is_met(row.literals())
+    }
+
+    // The arrangement that the trail makes meets every rule of the store.
+    pub fn are_rules_met(&self, store: &Store) -> bool
+        ensures { result ≡ every (λ x. not x.rule || meets T.Theory.kind (T.Theory.model self.now.reading.atoms.theory.now) self.now.reading.atoms.switches (arrangement T.Theory.kind (T.Theory.model self.now.reading.atoms.theory.now) self.now.reading.atoms.switches self.now.reading.denominator (trail_of self.now.trail.now)) x.literals) (store_of store.now) }
+    {
+        store.rows().iter().all(|row| self.is_row_met(row))
+    }
 }

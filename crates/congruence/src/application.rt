@@ -1,14 +1,13 @@
-ghost use Rattle.std.specs.Prelude.{◌≡◌, ◌≤◌, length};
-
 pub mod applying;
 
-// One application: the result is the function's value at the arguments, of which there are as many as its arity.
-#[derive(Clone, Copy)]
+use arrayvec::ArrayVec;
+
+pub const MOST_ARGUMENTS: usize = 3;
+
+// One application: the result is the function's value at the arguments.
+#[derive(Drop, Default)]
 pub struct Application {
     function: u8,
-    arguments: [u8; 3],
-    arity: usize,
+    arguments: ArrayVec<u8, MOST_ARGUMENTS>,
     result: u8,
-    ghost whole: { length arguments ≡ 3 },
-    ghost fits: { arity ≤ 3 },
 }

@@ -1,14 +1,12 @@
-ghost use Rattle.std.specs.Prelude.{◌≡◌, ◌≤◌, length};
-
-use crate::application::Application;
-
 pub mod listing;
 
+use crate::application::Application;
+use arrayvec::ArrayVec;
+
+pub const MOST_APPLICATIONS: usize = 32;
+
 // The table of applications, in the order of their declaration.
-#[derive(Clone, Copy)]
+#[derive(Drop)]
 pub struct Applications {
-    rows: [Application; 32],
-    len: usize,
-    ghost whole: { length rows ≡ 32 },
-    ghost fits: { len ≤ 32 },
+    pub(crate) rows: ArrayVec<Application, MOST_APPLICATIONS>,
 }

@@ -1,17 +1,16 @@
-ghost use Rattle.std.specs.Prelude.{◌≡◌, Bool, true, false, drop};
-ghost use Rattle.faults.specs.Causes.{raised};
+ghost use Rattle.std.specs.Prelude.{◌≡◌, true, false, ◌∷◌, MatchOption};
 ghost use Rattle.calculus.specs.Lists.{every};
 ghost use Rattle.calculus.specs.Limits.{within};
 ghost use Rattle.calculus.specs.Questions.{Moves};
-ghost use Rattle.congruence.specs.Congruences.{congruence, is_own, application_taken, matched, raised_result, raised_vouching};
+ghost use Rattle.congruences.specs.Congruences.{congruence, own_kind, is_own, application_taken, raised_result};
 ghost use Rattle.congruence.specs.Views.{layer_model};
-ghost use Rattle.congruence.specs.Lawfulness.{congruence_lawful};
+ghost use Rattle.congruences.proofs.Lawfulness.{congruence_lawful};
 
 use crate::application::Application;
 use crate::applications::Applications;
-use crate::matching::is_matched;
-use calculus::limits::are_within_limits;
-use calculus::{Judgement, Theory, Vouching};
+use crate::matching::Reading;
+use calculus::Theory;
+use calculus::limits::{are_within_limits, is_within};
 use faults::{InputCause, StateCause, TheoryFault};
 
 const OWN_KIND: u8 = 3;
@@ -23,102 +22,54 @@ pub struct Congruence<T> {
     applications: Applications,
 }
 
-// A declaration or a hint of this layer's kind.
-fn is_own(bytes: &[u8]) -> bool
-    ensures { result ≡ is_own bytes.now }
+// What stands behind the kind of a declaration or a hint of this layer; none where it is of another kind.
+fn own_part(bytes: &[u8]) -> Option<&[u8]>
+    ensures { MatchOption result (is_own bytes.now ≡ false) (λ rest. bytes.now ≡ own_kind ∷ rest.now) }
 {
-    !bytes.is_empty() && bytes[0] == OWN_KIND
+    match bytes {
+        [OWN_KIND, rest @ ..] => Some(rest),
+        _ => None,
+    }
 }
 
-// What stands behind the first byte.
-fn behind(bytes: &[u8]) -> &[u8]
-    ensures { result.now ≡ drop 1 bytes.now }
-{
-    if bytes.is_empty() { bytes } else { &bytes[1..] }
-}
-
+// What the theory below says comes up through one more layer.
 fn raise(r: Result<(), TheoryFault>) -> Result<(), TheoryFault>
     ensures { result ≡ raised_result r }
 {
-    match r {
-        Ok(()) => Ok(()),
-        Err(f) => Err(f.raise()),
-    }
-}
-
-fn raise_vouching(v: Vouching) -> Vouching
-    ensures { result ≡ raised_vouching v }
-{
-    match v {
-        Vouching::Vouched => Vouching::Vouched,
-        Vouching::Unvouched(layer) => Vouching::Unvouched(faults::below(layer)),
-        Vouching::Refused(f) => Vouching::Refused(f.raise()),
-    }
-}
-
-fn is_measure(measures: u8, place: u8) -> bool
-    ensures { result ≡ within measures place }
-{
-    0 < place && place <= measures
+    r.map_err(TheoryFault::raise)
 }
 
 // Whether each byte is one of the measures.
 fn are_measures(measures: u8, places: &[u8]) -> bool
     ensures { result ≡ every (within measures) places.now }
 {
-    for p in places {
-        if !is_measure(measures, *p) {
-            return false;
-        }
-    }
-    true
+    places
+        .iter()
+        .all(|&p| is_within(usize::from(measures), usize::from(p)))
 }
 
 impl<T: Theory> Congruence<T> {
     // Takes an application: function, arity, arguments and result.
     fn declare_application(&mut self, rest: &[u8]) -> Result<(), TheoryFault>
-        ensures { Moves (congruence T.Theory.kind) (layer_model T.Theory.kind (T.Theory.model self.old.below) self.old.applications) (application_taken T.Theory.kind (layer_model T.Theory.kind (T.Theory.model self.old.below) self.old.applications) rest.now) result (layer_model T.Theory.kind (T.Theory.model self.new.below) self.new.applications) }
+        ensures { let old = layer_model T.Theory.kind (T.Theory.model self.old.below) self.old.applications in let new = layer_model T.Theory.kind (T.Theory.model self.new.below) self.new.applications in Moves (congruence T.Theory.kind) old (application_taken T.Theory.kind old rest.now) result new }
     {
-        if self.applications.len() >= 32 {
+        if !self.applications.has_room() {
             return Err(TheoryFault::State(StateCause::Full, 1));
         }
-        if rest.len() < 2 {
+        let [function, arity, places @ ..] = rest else {
             return Err(TheoryFault::Input(InputCause::WrongLength, 1));
-        }
-        let places = behind(behind(rest));
-        if places.len() != usize::from(rest[1]) + 1 {
+        };
+        if places.len() != usize::from(*arity) + 1 {
             return Err(TheoryFault::Input(InputCause::WrongLength, 1));
         }
         if !are_measures(self.below.measures(), places) {
             return Err(TheoryFault::Input(InputCause::OutOfRange, 1));
         }
-        match Application::read(rest[0], places) {
-            Some(a) => {
-                self.applications.push(a);
-                Ok(())
-            }
-            None => Err(TheoryFault::Input(InputCause::OutOfRange, 1)),
-        }
-    }
-
-    // Vouches for a clause by two applications, named behind the hint's kind.
-    fn match_applications(&self, switches: u8, clause: &[i8], rest: &[u8]) -> Vouching
-        ensures { result ≡ matched T.Theory.kind (layer_model T.Theory.kind (T.Theory.model self.now.below) self.now.applications) switches clause.now rest.now }
-    {
-        if rest.len() != 2 {
-            return Vouching::Refused(TheoryFault::Input(InputCause::WrongLength, 1));
-        }
-        let Some(p) = self.applications.get(rest[0]) else {
-            return Vouching::Refused(TheoryFault::Input(InputCause::OutOfRange, 1));
+        let Some(application) = Application::read(*function, places) else {
+            return Err(TheoryFault::Input(InputCause::OutOfRange, 1));
         };
-        let Some(q) = self.applications.get(rest[1]) else {
-            return Vouching::Refused(TheoryFault::Input(InputCause::OutOfRange, 1));
-        };
-        if is_matched(&self.below, switches, clause, &p, &q) {
-            Vouching::Vouched
-        } else {
-            Vouching::Unvouched(1)
-        }
+        self.applications.rows.push(application);
+        Ok(())
     }
 }
 
@@ -149,10 +100,10 @@ impl<T: Theory> Theory for Congruence<T> {
     }
 
     fn declare(&mut self, body: &[u8]) -> Result<(), TheoryFault> {
-        if is_own(body) {
-            return self.declare_application(behind(body));
+        match own_part(body) {
+            Some(rest) => self.declare_application(rest),
+            None => raise(self.below.declare(body)),
         }
-        raise(self.below.declare(body))
     }
 
     fn admit(&mut self, body: &[u8]) -> Result<(), TheoryFault> {
@@ -175,25 +126,32 @@ impl<T: Theory> Theory for Congruence<T> {
         self.below.holds(atom, numerators, denominator)
     }
 
-    fn admits(&self, numerators: &[i32], denominator: u32) -> Judgement {
+    fn admits(&self, numerators: &[i32], denominator: u32) -> Result<(), TheoryFault> {
         if !are_within_limits(self.below.measures(), numerators, denominator) {
-            return Judgement::No(1);
+            return Err(TheoryFault::State(StateCause::NotAdmitted, 1));
         }
-        match self.below.admits(numerators, denominator) {
-            Judgement::No(layer) => Judgement::No(faults::below(layer)),
-            Judgement::Yes if self.applications.are_consistent(numerators) => Judgement::Yes,
-            Judgement::Yes => Judgement::No(1),
+        raise(self.below.admits(numerators, denominator))?;
+        if !self.applications.are_consistent(numerators) {
+            return Err(TheoryFault::State(StateCause::NotAdmitted, 1));
         }
+        Ok(())
     }
 
     fn equates(&self, atom: u8, i: u8, j: u8) -> bool {
         self.below.equates(atom, i, j)
     }
 
-    fn vouches(&self, switches: u8, clause: &[i8], hint: &[u8]) -> Vouching {
-        if is_own(hint) {
-            return self.match_applications(switches, clause, behind(hint));
+    fn vouches(&self, switches: u8, clause: &[i8], hint: &[u8]) -> Result<(), TheoryFault> {
+        match own_part(hint) {
+            Some(rest) => {
+                let reading = Reading {
+                    below: &self.below,
+                    switches,
+                    clause,
+                };
+                reading.vouch(&self.applications, rest)
+            }
+            None => raise(self.below.vouches(switches, clause, hint)),
         }
-        raise_vouching(self.below.vouches(switches, clause, hint))
     }
 }

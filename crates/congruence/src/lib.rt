@@ -6,5 +6,6 @@ mod application;
 mod applications;
 mod layer;
 mod matching;
+mod places;
 
 pub use layer::Congruence;

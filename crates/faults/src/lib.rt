@@ -7,62 +7,62 @@ ghost use Rattle.faults.specs.declared.SessionFault.TheVariants.{Theory};
 ghost use Rattle.faults.specs.declared.FileFault.TheVariants.{Session};
 ghost use Rattle.faults.specs.Causes.{coded, input_number, state_number, theory_code, session_code, file_code, one_lower, raised};
 
-// The causes in the input, in their order, numbered from 1.
+// The causes in the input, in their order, with their numbers.
 #[derive(Clone, Copy, PartialEq, Eq, Debug)]
 pub enum InputCause {
-    // 1: the first byte of a file is absent or not 01
-    WrongVersion,
-    // 2: a case over 20,000 bytes or a log over 40,000
-    FileTooLong,
-    // 3: a record's length is cut short, 0 or beyond the end
-    BadRecordLength,
-    // 4: a kind of record that is not of this file
-    UnknownKind,
-    // 5: a body, a hint or a record of the wrong length
-    WrongLength,
-    // 6: a number outside its range
-    OutOfRange,
-    // 7: a literal that is 0 or -128
-    BadLiteral,
-    // 8: more than 16 literals, or a number twice
-    BadClause,
-    // 9: a report buffer under 2,048 bytes
-    ShortBuffer,
+    // the first byte of a file is absent or not 01
+    WrongVersion = 1,
+    // a case over 20,000 bytes or a log over 40,000
+    FileTooLong = 2,
+    // a record's length is cut short, 0 or beyond the end
+    BadRecordLength = 3,
+    // a kind of record that is not of this file
+    UnknownKind = 4,
+    // a body, a hint or a record of the wrong length
+    WrongLength = 5,
+    // a number outside its range
+    OutOfRange = 6,
+    // a literal that is 0 or -128
+    BadLiteral = 7,
+    // more than 16 literals, or a number twice
+    BadClause = 8,
+    // a report buffer under 2,048 bytes
+    ShortBuffer = 9,
 }
 
-// The causes in the state, in their order, numbered from 20.
+// The causes in the state, in their order, with their numbers.
 #[derive(Clone, Copy, PartialEq, Eq, Debug)]
 pub enum StateCause {
-    // 20: a call that does not serve in this phase
-    WrongPhase,
-    // 21: no room for one more clause, number or application
-    Full,
-    // 22: a number or clause that is not there, or 0
-    Absent,
-    // 23: already on the trail, or valued
-    Taken,
-    // 24: readable where it must not be, or the reverse
-    WrongReadability,
-    // 25: the literal is not in the clause, or another literal of it is not false
-    NotUnit,
-    // 26: a value that makes a literal of the trail false
-    ContradictsTrail,
-    // 27: a clause with a literal that is not false
-    NotFalse,
-    // 28: not in the open clause, or without a reason
-    NotResolvable,
-    // 29: a resolvent of more than 16 literals
-    ResolventTooLong,
-    // 30: a jump or concession that the levels do not allow
-    NotAllowed,
-    // 31: a lemma that the theory does not vouch for
-    NotVouched,
-    // 32: a measure without a value
-    NoValue,
-    // 33: a rule without a true literal
-    RuleUnmet,
-    // 34: values that the theory does not admit
-    NotAdmitted,
+    // a call that does not serve in this phase
+    WrongPhase = 20,
+    // no room for one more clause, number or application
+    Full = 21,
+    // a number or clause that is not there, or 0
+    Absent = 22,
+    // already on the trail, or valued
+    Taken = 23,
+    // readable where it must not be, or the reverse
+    WrongReadability = 24,
+    // the literal is not in the clause, or another literal of it is not false
+    NotUnit = 25,
+    // a value that makes a literal of the trail false
+    ContradictsTrail = 26,
+    // a clause with a literal that is not false
+    NotFalse = 27,
+    // not in the open clause, or without a reason
+    NotResolvable = 28,
+    // a resolvent of more than 16 literals
+    ResolventTooLong = 29,
+    // a jump or concession that the levels do not allow
+    NotAllowed = 30,
+    // a lemma that the theory does not vouch for
+    NotVouched = 31,
+    // a measure without a value
+    NoValue = 32,
+    // a rule without a true literal
+    RuleUnmet = 33,
+    // values that the theory does not admit
+    NotAdmitted = 34,
 }
 
 // A fault's cause, by its number, and the layer that it comes from.
@@ -122,17 +122,7 @@ impl InputCause {
     pub fn number(self) -> u8
         ensures { result ≡ input_number self }
     {
-        match self {
-            InputCause::WrongVersion => 1,
-            InputCause::FileTooLong => 2,
-            InputCause::BadRecordLength => 3,
-            InputCause::UnknownKind => 4,
-            InputCause::WrongLength => 5,
-            InputCause::OutOfRange => 6,
-            InputCause::BadLiteral => 7,
-            InputCause::BadClause => 8,
-            InputCause::ShortBuffer => 9,
-        }
+        self as u8
     }
 }
 
@@ -140,23 +130,7 @@ impl StateCause {
     pub fn number(self) -> u8
         ensures { result ≡ state_number self }
     {
-        match self {
-            StateCause::WrongPhase => 20,
-            StateCause::Full => 21,
-            StateCause::Absent => 22,
-            StateCause::Taken => 23,
-            StateCause::WrongReadability => 24,
-            StateCause::NotUnit => 25,
-            StateCause::ContradictsTrail => 26,
-            StateCause::NotFalse => 27,
-            StateCause::NotResolvable => 28,
-            StateCause::ResolventTooLong => 29,
-            StateCause::NotAllowed => 30,
-            StateCause::NotVouched => 31,
-            StateCause::NoValue => 32,
-            StateCause::RuleUnmet => 33,
-            StateCause::NotAdmitted => 34,
-        }
+        self as u8
     }
 }
 
@@ -164,7 +138,7 @@ impl StateCause {
 pub fn below(layer: u8) -> u8
     ensures { result ≡ one_lower layer }
 {
-    if layer < 255 { layer + 1 } else { 255 }
+    layer.saturating_add(1)
 }
 
 impl TheoryFault {

@@ -1,22 +1,12 @@
 -- Literals read one by one, and written over the front of a list.
 use Rattle.std.proofs.Common.{◌≡◌, ℕ, ◌+◌, ◌<◌, ◌≤◌, leb, List, [], ◌∷◌, ◌++◌, length, get_or, take, drop, set, ℤ, pos, Some, None, sym, ap, ◌∙◌, arith}
-use Rattle.std.specs.List.{slice_get}
-use Rattle.std.proofs.lemmas.List.{length-map, length-take-le, get_or-map, drop_more, set_at, append_assoc, map_more, take_all}
-use Rattle.std.proofs.lemmas.Option.{slice_get-get_or, slice_get_past}
+use Rattle.std.proofs.lemmas.List.{length-map, length-take-le, drop_more, set_at, append_assoc, map_more, take_all}
 use Rattle.std.proofs.lemmas.Bool.{le-leb, lt-leb, cond-true, cond-false}
 use Rattle.numerals.specs.Numbers.{signed_byte, signed_bytes}
 use Rattle.files.specs.Views.{copied, copied_count}
 
 pub signed_length : (bytes : List ℕ) → length (signed_bytes bytes) ≡ length bytes
 signed_length bytes = length-map bytes signed_byte
-
-pub signed_at : (bytes : List ℕ) (i : ℕ) → i < length bytes → Some (signed_byte (get_or bytes i 0)) ≡ slice_get (signed_bytes bytes) i
-signed_at bytes i h =
-    ap Some (sym (get_or-map signed_byte bytes i 0 (pos 0) h))
-    ∙ sym (slice_get-get_or (signed_bytes bytes) i (pos 0) (omega (arith, signed_length bytes)))
-
-pub signed_past : (bytes : List ℕ) (i : ℕ) → length bytes ≤ i → None ≡ slice_get (signed_bytes bytes) i
-signed_past bytes i h = sym (slice_get_past (signed_bytes bytes) i (omega (arith, signed_length bytes)))
 
 -- the first i literals over the front of a list
 abbrev pub over_front : List ℕ → ℕ → List ℤ → List ℤ

@@ -34,11 +34,6 @@ starts kind file place count o p n = (
 pub refused : (kind : FileKind) (file : List ℕ) (c : InputCause) → opened kind file ≡ inl c → Stopped 0 0 (Input c) ≡ read_file kind file
 refused kind file c o = sym (ap (λ (x : InputCause ⊎ Unit {0}). unless_refused x (reading (length file) 1 1 (drop 1 file))) o)
 
--- a file that passes the tests is read from its first record on
-pub reads_opened : (kind : FileKind) (file : List ℕ) → opened kind file ≡ inr tt → read_file kind file ≡ reading (length file) 1 1 (drop 1 file)
-reads_opened kind file o =
-    ap (λ (x : InputCause ⊎ Unit {0}). unless_refused x (reading (length file) 1 1 (drop 1 file))) o
-
 onto_push : (es : List Entry) (e : Entry) (r : Reading) → onto (es ++ e ∷ []) r ≡ onto es (Then e r)
 onto_push [] e r = refl
 onto_push (x ∷ es) e r = ap (Then x) (onto_push es e r)

@@ -31,11 +31,7 @@ impl Literals<'_> {
     pub fn get(&self, i: usize) -> Option<i8>
         ensures { result ≡ slice_get (literals self.now) i }
     {
-        if i < self.len() {
-            Some(signed_byte(self.bytes[i]))
-        } else {
-            None
-        }
+        self.bytes.get(i).map(|b| signed_byte(*b))
     }
 
     // Writes the literals to the front of `out`, and says how many: none is written where they do not all fit.

@@ -11,8 +11,8 @@ pub const MOST_LOG_BYTES: usize = 40_000;
 // Which of the two files: the case, or the log that answers it.
 #[derive(Clone, Copy, PartialEq, Eq, Debug)]
 pub enum FileKind {
-    Case,
-    Log,
+    Case = 1,
+    Log = 2,
 }
 
 impl FileKind {
@@ -20,10 +20,7 @@ impl FileKind {
     pub fn number(self) -> u8
         ensures { result ≡ file_number self }
     {
-        match self {
-            FileKind::Case => 1,
-            FileKind::Log => 2,
-        }
+        self as u8
     }
 
     // How long such a file may be.

@@ -1,16 +1,17 @@
 -- What the proofs on multipliers want.
-use Rattle.std.proofs.Common.{◌≡◌, ℕ, zero, suc, ◌+◌, ◌-◌, ◌*◌, ◌^◌, ◌<◌, ◌≤◌, Bool, true, false, ◌&&◌, leb, List, [], ◌∷◌, length, get_or, ℤ, pos, negsuc, ◌+ℤ◌, nat_abs, ◌<ℤ◌, None, sym, refl, ap, ◌∙◌, ap₂, arith, SFits, to_z, of_z}
+use Rattle.std.proofs.Common.{◌≡◌, ℕ, zero, suc, ◌+◌, ◌*◌, ◌^◌, ◌<◌, ◌≤◌, true, List, [], ◌∷◌, length, get_or, ℤ, pos, ◌+ℤ◌, nat_abs, None, sym, refl, ap, ◌∙◌, arith, to_z, of_z}
 use mir.Syntax.{w128}
 use Rattle.std.proofs.lemmas.Int.{ints}
-use Rattle.std.proofs.lemmas.Bool.{cond-false, lt-leb, and_left, and_right}
 use Rattle.std.proofs.lemmas.List.FromFn.{length-map-range_with_len, get_or-map-range_with_len}
 use Rattle.calculus.specs.Limits.{sized}
-use Rattle.calculus.specs.Lists.{every, nth}
+use Rattle.calculus.specs.Lists.{every}
 use Rattle.rows.specs.Bounds.{most_size}
-use Rattle.rows.specs.Rows.{Row, no_row, same_relation, related_by, turned}
-use Rattle.rows.specs.declared.Relation.TheVariants.{Less, Equal}
+use Rattle.rows.specs.Rows.{Row}
 use Rattle.rows.specs.Bodies.{word_at}
-use Rattle.rows.specs.Hints.{Part, multipliers, denial, parts, hinted_parts, affirms, some_affirms, halved}
+use Rattle.rows.specs.Hints.{Part, multipliers, denial, parts, hinted_parts}
+use Rattle.linear.specs.declared.refutations.Refutation.{Refutation}
+use Rattle.linear.specs.Models.{table}
+use Rattle.linear.specs.Refutations.{parts_of}
 use Rattle.linear.proofs.Sums.{sized_abs, every_at}
 
 abbrev pub no_part : Part
@@ -22,12 +23,13 @@ multiplier_at hint i = word_at hint (1 + 4 * i)
 pub multiplier_is : (n : ℕ) (hint : List ℕ) (i : ℕ) → i < n → get_or (multipliers n hint) i (pos 0) ≡ multiplier_at hint i
 multiplier_is n hint i h = get_or-map-range_with_len (multiplier_at hint) 0 n i i (pos 0) h (omega arith)
 
-pub multiplier_small : (n : ℕ) (hint : List ℕ) (i : ℕ) → i < n → every (sized most_size) (multipliers n hint) ≡ true → nat_abs (multiplier_at hint i) ≤ 100000000
-multiplier_small n hint i h t =
+pub multiplier_sized : (n : ℕ) (hint : List ℕ) (i : ℕ) → i < n → every (sized most_size) (multipliers n hint) ≡ true → sized most_size (multiplier_at hint i) ≡ true
+multiplier_sized n hint i h t =
     let e = length-map-range_with_len (multiplier_at hint) 0 n in
-    let s = sized_abs most_size (get_or (multipliers n hint) i (pos 0)) (every_at (sized most_size) (multipliers n hint) i (pos 0) t (omega arith)) in
-    let q = ap nat_abs (multiplier_is n hint i h) in
-    omega arith
+    sym (ap (sized most_size) (multiplier_is n hint i h)) ∙ every_at (sized most_size) (multipliers n hint) i (pos 0) t (omega arith)
+
+pub multiplier_small : (n : ℕ) (hint : List ℕ) (i : ℕ) → i < n → every (sized most_size) (multipliers n hint) ≡ true → nat_abs (multiplier_at hint i) ≤ 100000000
+multiplier_small n hint i h t = sized_abs most_size (multiplier_at hint i) (multiplier_sized n hint i h t)
 
 module _ (rows : List Row) (s : ℕ) where
   parts_length : (ls xs : List ℤ) → length xs ≡ length ls → length (parts rows s ls xs) ≡ length ls
@@ -47,21 +49,9 @@ module _ (rows : List Row) (s : ℕ) where
   pub hinted_at : (ls : List ℤ) (hint : List ℕ) (i : ℕ) → i < length ls → get_or (hinted_parts rows s ls hint) i no_part ≡ (multiplier_at hint i, denial rows s (get_or ls i (pos 0)))
   hinted_at ls hint i h = parts_at ls (multipliers (length ls) hint) i h (length-map-range_with_len (multiplier_at hint) 0 (length ls)) ∙ ap (λ x. (x, denial rows s (get_or ls i (pos 0)))) (multiplier_is (length ls) hint i h)
 
--- a literal that affirms an atom
-pub affirms_at : (rows : List Row) (s : ℕ) (p : Row → Bool) (l : ℤ) (n : ℕ) → n ≡ nat_abs l → pos 0 <ℤ l → s < n → p (nth no_row rows (n - s)) ≡ affirms rows s p l
-affirms_at rows s p (pos k) n e h l = ap (λ x. p (nth no_row rows (x - s))) e ∙ sym (cond-false (leb k s) false (p (nth no_row rows (k - s))) (lt-leb k s (omega arith)))
-affirms_at rows s p (negsuc k) n e h l = absurd h.lt
-
--- the three tests of a split
-pub halved_by : (rows : List Row) (s : ℕ) (ls : List ℤ) (r q₁ q₂ : Row) → same_relation r.relation Equal ≡ true → q₁ ≡ related_by Less r → some_affirms rows s ls q₁ ≡ true → q₂ ≡ turned Less r → some_affirms rows s ls q₂ ≡ halved rows s ls r
-halved_by rows s ls r q₁ q₂ t e f g = ap (some_affirms rows s ls) g ∙ sym (ap₂ (λ x y. x && (y && some_affirms rows s ls (turned Less r))) t (ap (some_affirms rows s ls) (sym e) ∙ f))
-
-pub not_halved : (rows : List Row) (s : ℕ) (ls : List ℤ) (r q : Row) → q ≡ related_by Less r → some_affirms rows s ls q ≡ false → halved rows s ls r ≡ false
-not_halved rows s ls r q e f = and_right (same_relation r.relation Equal) _ (and_left (some_affirms rows s ls (related_by Less r)) (some_affirms rows s ls (turned Less r)) (ap (some_affirms rows s ls) (sym e) ∙ f))
-
 -- a turn of a loop that adds the product x to the sum S, which is w so far
 pub long_sum_step : (S x y w next : ℤ) (i : ℕ) → i < 2 ^ 64 → S ≡ w → nat_abs S ≤ i * 160000000000000000 → y ≡ x → nat_abs x ≤ 160000000000000000 → next ≡ w +ℤ x → (to_z w128 (of_z w128 (S +ℤ to_z w128 (of_z w128 y))) ≡ next) × (nat_abs (to_z w128 (of_z w128 (S +ℤ to_z w128 (of_z w128 y)))) ≤ (i + 1) * 160000000000000000)
 long_sum_step S x y w next i h e b q k n = (omega (arith, ints), omega (arith, ints))
 
-pub long_sum_fits : (S x y : ℤ) (i : ℕ) → i < 2 ^ 64 → nat_abs S ≤ i * 160000000000000000 → y ≡ x → nat_abs x ≤ 160000000000000000 → SFits w128 (S +ℤ to_z w128 (of_z w128 y))
-long_sum_fits S x y i h b q k = omega (arith, ints)
+pub parts_length_is : (r : Refutation) → length (parts_of r) ≡ length r.clause.literals.now
+parts_length_is r = hinted_length (table r.clause.linear.now).rows r.clause.switches r.clause.literals.now r.hint.now

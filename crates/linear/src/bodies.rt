@@ -1,18 +1,19 @@
 // Reading an atom from the bytes of its body.
-ghost use Rattle.std.specs.Prelude.{◌≡◌, ◌+◌, ◌*◌, ◌<◌, ◌≤◌, true, false, length, take, MatchOption, ◌==◌};
-ghost use Rattle.calculus.specs.Limits.{sized, within, most_measures};
+ghost use Rattle.std.specs.Prelude.{◌≡◌, ◌+◌, ◌*◌, ◌<◌, ◌≤◌, true, false, length, MatchOption, ◌==◌};
+ghost use Rattle.calculus.specs.Limits.{sized, most_measures};
 ghost use Rattle.rows.specs.Bounds.{most_size};
 ghost use Rattle.rows.specs.Bodies.{byte_at, word_at, relation_of, entry_at, entries_in, row_in, follows as may_follow, in_order, proper_row};
-ghost use Rattle.linear.specs.Views.{row, small_entries, bounded};
+ghost use Rattle.linear.specs.Views.{row};
 
 use crate::atoms::Atom;
-use crate::bounds::{MOST_ENTRIES, MOST_SIZE};
+use crate::bounds::MOST_SIZE;
+use crate::entries::Entries;
 use rows::{Entry, Relation};
 
 pub fn within_size(x: i32) -> bool
     ensures { result ≡ sized most_size x }
 {
-    -MOST_SIZE <= x && x <= MOST_SIZE
+    (-MOST_SIZE..=MOST_SIZE).contains(&x)
 }
 
 // The signed number of the four bytes from a place on.
@@ -28,27 +29,11 @@ pub fn word(bytes: &[u8], place: usize) -> i32
     )
 }
 
-pub fn known_relation(byte: u8) -> bool
-    ensures { result ≡ within 3 byte }
-{
-    0 < byte && byte <= 3
-}
-
-fn relation(byte: u8) -> Relation
-    ensures { result ≡ relation_of byte }
-{
-    match byte {
-        1 => Relation::Less,
-        2 => Relation::AtMost,
-        _ => Relation::Equal,
-    }
-}
-
 // Whether the body is as long as its count of entries says.
 pub fn well_long(body: &[u8]) -> bool
     ensures { result ≡ (length body.now == 6 + 5 * byte_at body.now 1) }
 {
-    body.len() >= 2 && body.len() == 6 + 5 * body[1] as usize
+    matches!(body, [_, count, ..] if body.len() == 6 + 5 * usize::from(*count))
 }
 
 // The entry i, counted from 0.
@@ -70,45 +55,39 @@ fn follows(e: &Entry, last: u8, measures: u8) -> bool
 }
 
 // The entries, if each may follow the one before it.
-fn entries(body: &[u8], count: u8, measures: u8) -> Option<[Entry; MOST_ENTRIES]>
+fn entries(body: &[u8], count: u8, measures: u8) -> Option<Entries>
     requires long { length body.now ≡ 6 + 5 * count }
     requires few { measures ≤ most_measures }
-    ensures { MatchOption result (in_order measures 0 (entries_in body.now count) ≡ false) (λ es. (in_order measures 0 (entries_in body.now count) ≡ true) × (take count es ≡ entries_in body.now count) × (small_entries es ≡ true) × (count ≤ most_measures)) }
+    ensures { MatchOption result (in_order measures 0 (entries_in body.now count) ≡ false) (λ es. (in_order measures 0 (entries_in body.now count) ≡ true) × (es.items.items ≡ entries_in body.now count)) }
 {
-    let mut entries = [Entry {
-        measure: 0,
-        coefficient: 0,
-    }; MOST_ENTRIES];
+    let mut entries = Entries::default();
     let mut last = 0;
-    for i in 0..count as usize {
+    for i in 0..usize::from(count) {
         let e = entry(body, i);
         if !follows(&e, last, measures) {
             return None;
         }
-        entries[i] = e;
+        entries.push(e);
         last = e.measure;
     }
     Some(entries)
 }
 
 // The atom of a body of the right length, if its row is one that is taken.
-pub fn read(body: &[u8], measures: u8) -> Option<Atom>
+pub fn read(body: &[u8], relation: Relation, measures: u8) -> Option<Atom>
     requires long { length body.now ≡ 6 + 5 * byte_at body.now 1 }
+    requires related { relation ≡ relation_of (byte_at body.now 0) }
     requires few { measures ≤ most_measures }
-    ensures { MatchOption result (proper_row measures (row_in body.now) ≡ false) (λ a. (proper_row measures (row_in body.now) ≡ true) × (row a ≡ row_in body.now) × (bounded a ≡ true)) }
+    ensures { MatchOption result (proper_row measures (row_in body.now) ≡ false) (λ a. (proper_row measures (row_in body.now) ≡ true) × (row a ≡ row_in body.now)) }
 {
-    let len = body[1];
-    let constant = word(body, 2 + 5 * len as usize);
+    let count = body[1];
+    let constant = word(body, 2 + 5 * usize::from(count));
     if !within_size(constant) {
         return None;
     }
-    match entries(body, len, measures) {
-        None => None,
-        Some(entries) => Some(Atom {
-            relation: relation(body[0]),
-            entries,
-            len,
-            constant,
-        }),
-    }
+    Some(Atom {
+        relation,
+        entries: entries(body, count, measures)?,
+        constant,
+    })
 }

@@ -1,14 +1,16 @@
-// Sums and tests over the entries of a row.
-ghost use Rattle.std.specs.Prelude.{◌≡◌, ◌≤◌, true, ◌&&◌, map, length, pos, ◌*ℤ◌, ◌==◌, nat_eq, unsigned_abs};
+// The entries of a row, with sums and tests over them.
+ghost use Rattle.std.specs.Prelude.{◌≡◌, ◌<◌, ◌≤◌, true, [], ◌∷◌, ◌++◌, map, length, pos, ◌*ℤ◌, nat_eq, unsigned_abs};
 ghost use Rattle.calculus.specs.Limits.{sized, most_measures, most_numerator};
 ghost use Rattle.rows.specs.Bounds.{most_size};
-ghost use Rattle.calculus.specs.Lists.{every, some, nth};
-ghost use Rattle.calculus.specs.Literals.{same};
-ghost use Rattle.rows.specs.Rows.{weight, coefficient_of, same_entries, turned_entry};
+ghost use Rattle.calculus.specs.Lists.{every, some};
+ghost use Rattle.rows.specs.Rows.{weight, coefficient_of, turned_entry};
 ghost use Rattle.rows.specs.Linear.{on_both, opposite as opposite_entries, opposed as opposed_entries};
-ghost use Rattle.linear.specs.Views.{small_entries, most_sum, most_product};
+ghost use Rattle.arrayvec.specs.ArrayVec.{array_vec_len};
+ghost use Rattle.linear.specs.Sizes.{small_entries, most_sum, most_product};
 
 use crate::bounds::MOST_ENTRIES;
+use arrayvec::ArrayVec;
+use calculus::limits::value_at;
 use rows::Entry;
 
 // A product of a number in its range and one of the size of a sum of coefficients.
@@ -19,103 +21,6 @@ pub fn product(a: i32, b: i32) -> i64
     ensures small { unsigned_abs result ≤ most_product }
 {
     i64::from(a) * i64::from(b)
-}
-
-// The numerator of a measure, 0 where there is none.
-fn numerator(numerators: &[i32], measure: u8) -> i32
-    ensures { result ≡ nth (pos 0) numerators.now measure }
-{
-    let place = measure as usize;
-    if 0 < place && place <= numerators.len() {
-        numerators[place - 1]
-    } else {
-        0
-    }
-}
-
-// The sum of coefficient times numerator.
-pub fn weighed(entries: &[Entry], numerators: &[i32]) -> i64
-    requires few { length entries.now ≤ most_measures }
-    requires small { small_entries entries.now ≡ true }
-    requires sized { every (sized most_numerator) numerators.now ≡ true }
-    ensures { result ≡ weight entries.now numerators.now }
-{
-    let mut sum: i64 = 0;
-    for e in entries {
-        sum += product(e.coefficient, numerator(numerators, e.measure));
-    }
-    sum
-}
-
-// The coefficient of a measure, 0 where it is not mentioned.
-pub fn coefficient(entries: &[Entry], measure: u8) -> i32
-    requires few { length entries.now ≤ most_measures }
-    requires small { small_entries entries.now ≡ true }
-    ensures value { result ≡ coefficient_of measure entries.now }
-    ensures small { unsigned_abs result ≤ most_sum }
-{
-    let mut sum: i32 = 0;
-    for e in entries {
-        if e.measure == measure {
-            sum += e.coefficient;
-        }
-    }
-    sum
-}
-
-// Whether an entry is on the measure.
-pub fn mentioned(entries: &[Entry], measure: u8) -> bool
-    ensures { result ≡ some (λ e. nat_eq e.measure measure) entries.now }
-{
-    for e in entries {
-        if e.measure == measure {
-            return true;
-        }
-    }
-    false
-}
-
-fn alike(a: &Entry, b: &Entry) -> bool
-    ensures { result ≡ (a.now.measure == b.now.measure && same a.now.coefficient b.now.coefficient) }
-{
-    a.measure == b.measure && a.coefficient == b.coefficient
-}
-
-// Whether the entries are the same, in the same order.
-pub fn all_alike(a: &[Entry], b: &[Entry]) -> bool
-    ensures { result ≡ same_entries a.now b.now }
-{
-    if a.len() != b.len() {
-        return false;
-    }
-    for i in 0..a.len() {
-        if !alike(&a[i], &b[i]) {
-            return false;
-        }
-    }
-    true
-}
-
-fn turned_entry(e: &Entry) -> Entry
-    requires { sized most_size e.now.coefficient ≡ true }
-    ensures { result ≡ turned_entry e.now }
-{
-    Entry {
-        measure: e.measure,
-        coefficient: -e.coefficient,
-    }
-}
-
-// All signs turned.
-pub fn turned(entries: [Entry; MOST_ENTRIES]) -> [Entry; MOST_ENTRIES]
-    requires { small_entries entries ≡ true }
-    ensures { result ≡ map turned_entry entries }
-{
-    let mut r = entries;
-    for i in 0..MOST_ENTRIES {
-        r[i] = turned_entry(&r[i]);
-    }
-    r
 }
 
 // Whether one entry is on i, and the other on j.
@@ -134,13 +39,104 @@ fn opposite(e: &Entry, f: &Entry) -> bool
     e.coefficient + f.coefficient == 0 && e.coefficient != 0
 }
 
-// Whether there is one entry on i and one on j, with opposite coefficients that are not 0.
-pub fn opposed(entries: &[Entry], i: u8, j: u8) -> bool
-    requires { small_entries entries.now ≡ true }
-    ensures { result ≡ opposed_entries i j entries.now }
+fn turned_entry(e: &Entry) -> Entry
+    requires { sized most_size e.now.coefficient ≡ true }
+    ensures { result ≡ turned_entry e.now }
 {
-    if entries.len() != 2 {
-        return false;
+    Entry {
+        measure: e.measure,
+        coefficient: -e.coefficient,
     }
-    on_both(&entries[0], &entries[1], i, j) && opposite(&entries[0], &entries[1])
+}
+
+// The entries of a row, with coefficients in their range.
+#[derive(Drop, PartialEq)]
+pub struct Entries {
+    items: ArrayVec<Entry, MOST_ENTRIES>,
+    ghost small: { small_entries items.items ≡ true },
+}
+
+impl Default for Entries {
+    ghost is_default = { λ es. es.items.items ≡ [] };
+
+    fn default() -> Self {
+        Entries {
+            items: ArrayVec::new(),
+        }
+    }
+}
+
+impl Entries {
+    pub fn as_slice(&self) -> &[Entry]
+        ensures value { result.now ≡ self.now.items.items }
+        ensures few { length result.now ≤ most_measures }
+        ensures small { small_entries result.now ≡ true }
+    {
+        self.items.as_slice()
+    }
+
+    pub fn push(&mut self, entry: Entry)
+        requires room { array_vec_len self.old.items < most_measures }
+        requires small { sized most_size entry.coefficient ≡ true }
+        ensures { self.new.items.items ≡ self.old.items.items ++ entry ∷ [] }
+    {
+        self.items.push(entry);
+    }
+
+    // The sum of coefficient times numerator.
+    pub fn weighed(&self, numerators: &[i32]) -> i64
+        requires { every (sized most_numerator) numerators.now ≡ true }
+        ensures { result ≡ weight self.now.items.items numerators.now }
+    {
+        let entries = self.as_slice();
+        let mut sum: i64 = 0;
+        for e in entries {
+            sum += product(e.coefficient, value_at(numerators, e.measure));
+        }
+        sum
+    }
+
+    // The coefficient of a measure, 0 where it is not mentioned.
+    pub fn coefficient(&self, measure: u8) -> i32
+        ensures value { result ≡ coefficient_of measure self.now.items.items }
+        ensures small { unsigned_abs result ≤ most_sum }
+    {
+        let entries = self.as_slice();
+        let mut sum: i32 = 0;
+        for e in entries {
+            if e.measure == measure {
+                sum += e.coefficient;
+            }
+        }
+        sum
+    }
+
+    // Whether an entry is on the measure.
+    pub fn mentions(&self, measure: u8) -> bool
+        ensures { result ≡ some (λ e. nat_eq e.measure measure) self.now.items.items }
+    {
+        self.items.iter().any(|e| e.measure == measure)
+    }
+
+    // All signs turned.
+    pub fn turned(&self) -> Self
+        ensures { result.items.items ≡ map turned_entry self.now.items.items }
+    {
+        let entries = self.as_slice();
+        let mut turned = Entries::default();
+        for e in entries {
+            turned.push(turned_entry(e));
+        }
+        turned
+    }
+
+    // Whether there is one entry on i and one on j, with opposite coefficients that are not 0.
+    pub fn opposed(&self, i: u8, j: u8) -> bool
+        ensures { result ≡ opposed_entries i j self.now.items.items }
+    {
+        let [e, f] = self.as_slice() else {
+            return false;
+        };
+        on_both(e, f, i, j) && opposite(e, f)
+    }
 }

@@ -4,9 +4,10 @@
 mod atoms;
 mod bodies;
 mod bounds;
+mod clauses;
+mod denials;
 mod entries;
-mod hints;
-mod lookup;
+mod refutations;
 mod store;
 mod theory;
 

@@ -1,63 +1,76 @@
 // The linear theory as a theory.
-ghost use Rattle.std.specs.Prelude.{◌≡◌, ◌+◌, ◌*◌, true, length};
+ghost use Rattle.std.specs.Prelude.{◌≡◌, ◌+◌, ◌*◌, length};
 ghost use Rattle.calculus.specs.Lists.{every};
 ghost use Rattle.calculus.specs.Limits.{sized};
 ghost use Rattle.rows.specs.Bounds.{most_size};
 ghost use Rattle.rows.specs.Hints.{multipliers};
-ghost use Rattle.rows.specs.Linear.{linear, by_multipliers as hinted_so, by_split as split_so};
+ghost use Rattle.rows.specs.Linear.{linear, input as input_in, if_shown as answered_so, by_multipliers as hinted_so, by_split as split_so};
 ghost use Rattle.linear.specs.Models.{table};
 ghost use Rattle.rows.proofs.Lawfulness.{linear_lawful};
 
 use crate::bodies;
 use crate::bounds::MOST_MEASURES;
+use crate::clauses::Clause;
+use crate::refutations::Refutation;
 use crate::store::Linear;
+use calculus::Theory;
 use calculus::limits::are_within_limits;
-use calculus::{Judgement, Theory, Vouching};
 use faults::{InputCause, StateCause, TheoryFault};
+use rows::Relation;
+
+// All refusals are of layer 1.
+fn input(cause: InputCause) -> TheoryFault
+    ensures { result ≡ input_in cause }
+{
+    TheoryFault::Input(cause, 1)
+}
+
+fn if_shown(shown: bool) -> Result<(), TheoryFault>
+    ensures { result ≡ answered_so shown }
+{
+    if shown {
+        Ok(())
+    } else {
+        Err(TheoryFault::State(StateCause::NotVouched, 1))
+    }
+}
 
 // Whether each multiplier is in its range.
 fn all_sized(hint: &[u8], count: usize) -> bool
     requires { length hint.now ≡ 1 + 4 * count }
     ensures { result ≡ every (sized most_size) (multipliers count hint.now) }
 {
-    for i in 0..count {
-        if !bodies::within_size(bodies::word(hint, 1 + 4 * i)) {
-            return false;
-        }
-    }
-    true
+    (0..count)
+        .map(|i| bodies::word(hint, 1 + 4 * i))
+        .all(bodies::within_size)
 }
 
 impl Linear {
     // The hint of kind 1: one multiplier for each literal.
-    fn by_multipliers(&self, switches: u8, clause: &[i8], hint: &[u8]) -> Vouching
+    fn by_multipliers(&self, switches: u8, clause: &[i8], hint: &[u8]) -> Result<(), TheoryFault>
         ensures { result ≡ hinted_so (table self.now) switches clause.now hint.now }
     {
         if hint.len() as u128 != 1 + 4 * clause.len() as u128 {
-            return Vouching::Refused(TheoryFault::Input(InputCause::WrongLength, 1));
+            return Err(input(InputCause::WrongLength));
         }
         if !all_sized(hint, clause.len()) {
-            return Vouching::Refused(TheoryFault::Input(InputCause::OutOfRange, 1));
+            return Err(input(InputCause::OutOfRange));
         }
-        if self.knows_all(switches, clause) && self.refutes(switches, clause, hint) {
-            Vouching::Vouched
-        } else {
-            Vouching::Unvouched(1)
-        }
+        let Some(clause) = Clause::known(self, switches, clause) else {
+            return if_shown(false);
+        };
+        if_shown(Refutation { clause, hint }.refutes())
     }
 
     // The hint of kind 2, which is its kind alone.
-    fn by_split(&self, switches: u8, clause: &[i8], hint: &[u8]) -> Vouching
+    fn by_split(&self, switches: u8, clause: &[i8], hint: &[u8]) -> Result<(), TheoryFault>
         ensures { result ≡ split_so (table self.now) switches clause.now hint.now }
     {
         if hint.len() != 1 {
-            return Vouching::Refused(TheoryFault::Input(InputCause::WrongLength, 1));
+            return Err(input(InputCause::WrongLength));
         }
-        if self.knows_all(switches, clause) && self.splits(switches, clause) {
-            Vouching::Vouched
-        } else {
-            Vouching::Unvouched(1)
-        }
+        let clause = Clause::known(self, switches, clause);
+        if_shown(clause.is_some_and(|clause| clause.splits()))
     }
 }
 
@@ -81,87 +94,83 @@ impl Theory for Linear {
     }
 
     fn counts(&mut self, measures: u8) -> Result<(), TheoryFault> {
-        if self.counted {
+        if self.measures.is_some() {
             return Err(TheoryFault::State(StateCause::WrongPhase, 1));
         }
         if measures > Self::MOST {
-            return Err(TheoryFault::Input(InputCause::OutOfRange, 1));
+            return Err(input(InputCause::OutOfRange));
         }
-        self.counted = true;
-        self.measures = measures;
+        self.measures = Some(measures);
         Ok(())
     }
 
     fn declare(&mut self, body: &[u8]) -> Result<(), TheoryFault> {
         match body {
-            [] => Err(TheoryFault::Input(InputCause::WrongLength, 1)),
-            _ => Err(TheoryFault::Input(InputCause::OutOfRange, 1)),
+            [] => Err(input(InputCause::WrongLength)),
+            _ => Err(input(InputCause::OutOfRange)),
         }
     }
 
     fn admit(&mut self, body: &[u8]) -> Result<(), TheoryFault> {
-        if body.len() == 0 {
-            return Err(TheoryFault::Input(InputCause::WrongLength, 1));
-        }
-        if !self.has_room() {
+        let [byte, ..] = body else {
+            return Err(input(InputCause::WrongLength));
+        };
+        if self.atoms.is_full() {
             return Err(TheoryFault::State(StateCause::Full, 1));
         }
-        if !bodies::known_relation(body[0]) {
-            return Err(TheoryFault::Input(InputCause::OutOfRange, 1));
-        }
+        let Ok(relation) = Relation::try_from(*byte) else {
+            return Err(input(InputCause::OutOfRange));
+        };
         if !bodies::well_long(body) {
-            return Err(TheoryFault::Input(InputCause::WrongLength, 1));
+            return Err(input(InputCause::WrongLength));
         }
-        match bodies::read(body, self.measures) {
-            None => Err(TheoryFault::Input(InputCause::OutOfRange, 1)),
-            Some(atom) => {
-                self.push(atom);
-                Ok(())
-            }
-        }
+        let Some(atom) = bodies::read(body, relation, self.measure_count()) else {
+            return Err(input(InputCause::OutOfRange));
+        };
+        self.atoms.push(atom);
+        Ok(())
     }
 
     fn measures(&self) -> u8 {
-        self.measures
+        self.measure_count()
     }
 
     fn atoms(&self) -> u8 {
-        self.count
+        self.atoms.len() as u8
     }
 
     fn mentions(&self, atom: u8, measure: u8) -> bool {
-        self.has_atom(atom) && self.has_measure(measure) && self.atom(atom).mentions(measure)
+        self.has_measure(measure) && self.atom(atom).is_some_and(|row| row.mentions(measure))
     }
 
     fn holds(&self, atom: u8, numerators: &[i32], denominator: u32) -> bool {
-        self.has_atom(atom)
-            && are_within_limits(self.measures, numerators, denominator)
-            && self.atom(atom).holds(numerators, denominator)
+        self.atom(atom).is_some_and(|row| {
+            are_within_limits(self.measure_count(), numerators, denominator)
+                && row.holds(numerators, denominator)
+        })
     }
 
-    fn admits(&self, numerators: &[i32], denominator: u32) -> Judgement {
-        if are_within_limits(self.measures, numerators, denominator) {
-            Judgement::Yes
-        } else {
-            Judgement::No(1)
+    fn admits(&self, numerators: &[i32], denominator: u32) -> Result<(), TheoryFault> {
+        if !are_within_limits(self.measure_count(), numerators, denominator) {
+            return Err(TheoryFault::State(StateCause::NotAdmitted, 1));
         }
+        Ok(())
     }
 
     fn equates(&self, atom: u8, i: u8, j: u8) -> bool {
-        self.has_atom(atom)
-            && self.has_measure(i)
+        self.has_measure(i)
             && self.has_measure(j)
-            && self.atom(atom).equates(i, j)
+            && self.atom(atom).is_some_and(|row| row.equates(i, j))
     }
 
-    fn vouches(&self, switches: u8, clause: &[i8], hint: &[u8]) -> Vouching {
-        if hint.len() == 0 {
-            return Vouching::Refused(TheoryFault::Input(InputCause::WrongLength, 1));
-        }
-        match hint[0] {
+    fn vouches(&self, switches: u8, clause: &[i8], hint: &[u8]) -> Result<(), TheoryFault> {
+        let [kind, ..] = hint else {
+            return Err(input(InputCause::WrongLength));
+        };
+        match *kind {
             1 => self.by_multipliers(switches, clause, hint),
             2 => self.by_split(switches, clause, hint),
-            _ => Vouching::Refused(TheoryFault::Input(InputCause::OutOfRange, 1)),
+            _ => Err(input(InputCause::OutOfRange)),
         }
     }
 }

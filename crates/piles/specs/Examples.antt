@@ -1,13 +1,9 @@
 -- What congruence over linear answers, computed: four measures, applications, atoms, and a question.
-use Rattle.std.specs.Prelude.{◌≡◌, ℕ, List, [], ◌∷◌, ℤ, pos, negsuc, Ok, Err, Result}
+use Rattle.std.specs.Prelude.{◌≡◌, ℕ, List, [], ◌∷◌, ℤ, pos, negsuc, Ok, Err}
 use Rattle.std.specs.List.{AllByRecursion}
 use Rattle.faults.specs.declared.InputCause.TheVariants.{WrongLength, OutOfRange}
-use Rattle.faults.specs.declared.TheoryFault.{TheoryFault}
 use Rattle.faults.specs.declared.TheoryFault.TheVariants as theory
-use Rattle.calculus.specs.declared.Judgement.{Judgement}
-use Rattle.calculus.specs.declared.Judgement.TheVariants.{Yes, No}
-use Rattle.calculus.specs.declared.Vouching.{Vouching}
-use Rattle.calculus.specs.declared.Vouching.TheVariants.{Vouched, Unvouched, Refused}
+use Rattle.calculus.specs.Kinds.{Answer, not_admitted, not_vouched}
 use Rattle.calculus.specs.Questions.{answered, left, says_admitted}
 use Rattle.piles.specs.Piles.{congruent_linear}
 
@@ -59,45 +55,45 @@ pub record VouchedSo : Type 0 where
   pub atoms : List (List ℕ)
   pub clause : List ℤ
   pub hint : List ℕ
-  pub answer : Vouching
+  pub answer : Answer
 
 abbrev pub vouchings : List VouchedSo
 vouchings =
     -- multipliers 1, 1, 1 and 1, 1, 0
-    record { declarations = []; atoms = budget; clause = negsuc 0 ∷ pos 2 ∷ pos 3 ∷ []; hint = 1 ∷ 0 ∷ 0 ∷ 0 ∷ 1 ∷ 0 ∷ 0 ∷ 0 ∷ 1 ∷ 0 ∷ 0 ∷ 0 ∷ 1 ∷ []; answer = Vouched }
-    ∷ record { declarations = []; atoms = budget; clause = negsuc 0 ∷ pos 2 ∷ pos 3 ∷ []; hint = 1 ∷ 0 ∷ 0 ∷ 0 ∷ 1 ∷ 0 ∷ 0 ∷ 0 ∷ 1 ∷ 0 ∷ 0 ∷ 0 ∷ 0 ∷ []; answer = Unvouched 2 }
+    record { declarations = []; atoms = budget; clause = negsuc 0 ∷ pos 2 ∷ pos 3 ∷ []; hint = 1 ∷ 0 ∷ 0 ∷ 0 ∷ 1 ∷ 0 ∷ 0 ∷ 0 ∷ 1 ∷ 0 ∷ 0 ∷ 0 ∷ 1 ∷ []; answer = Ok tt }
+    ∷ record { declarations = []; atoms = budget; clause = negsuc 0 ∷ pos 2 ∷ pos 3 ∷ []; hint = 1 ∷ 0 ∷ 0 ∷ 0 ∷ 1 ∷ 0 ∷ 0 ∷ 0 ∷ 1 ∷ 0 ∷ 0 ∷ 0 ∷ 0 ∷ []; answer = not_vouched 2 }
     -- a split, and the same without its last part
-    ∷ record { declarations = []; atoms = three; clause = pos 1 ∷ pos 2 ∷ pos 3 ∷ []; hint = 2 ∷ []; answer = Vouched }
-    ∷ record { declarations = []; atoms = three; clause = pos 1 ∷ pos 2 ∷ []; hint = 2 ∷ []; answer = Unvouched 2 }
+    ∷ record { declarations = []; atoms = three; clause = pos 1 ∷ pos 2 ∷ pos 3 ∷ []; hint = 2 ∷ []; answer = Ok tt }
+    ∷ record { declarations = []; atoms = three; clause = pos 1 ∷ pos 2 ∷ []; hint = 2 ∷ []; answer = not_vouched 2 }
     -- equal arguments have equal results; without them nothing is said
-    ∷ record { declarations = two_applications; atoms = two_equations; clause = negsuc 0 ∷ pos 2 ∷ []; hint = 3 ∷ 1 ∷ 2 ∷ []; answer = Vouched }
-    ∷ record { declarations = two_applications; atoms = two_equations; clause = pos 2 ∷ []; hint = 3 ∷ 1 ∷ 2 ∷ []; answer = Unvouched 1 }
+    ∷ record { declarations = two_applications; atoms = two_equations; clause = negsuc 0 ∷ pos 2 ∷ []; hint = 3 ∷ 1 ∷ 2 ∷ []; answer = Ok tt }
+    ∷ record { declarations = two_applications; atoms = two_equations; clause = pos 2 ∷ []; hint = 3 ∷ 1 ∷ 2 ∷ []; answer = not_vouched 1 }
     -- an application matched with itself does not vouch for the empty clause
-    ∷ record { declarations = two_applications; atoms = two_equations; clause = []; hint = 3 ∷ 1 ∷ 1 ∷ []; answer = Unvouched 1 }
+    ∷ record { declarations = two_applications; atoms = two_equations; clause = []; hint = 3 ∷ 1 ∷ 1 ∷ []; answer = not_vouched 1 }
     -- refused hints: too short, an application that is not there, an unknown kind, an empty one
-    ∷ record { declarations = two_applications; atoms = two_equations; clause = []; hint = 3 ∷ 1 ∷ []; answer = Refused (theory.Input WrongLength 1) }
-    ∷ record { declarations = two_applications; atoms = two_equations; clause = []; hint = 3 ∷ 1 ∷ 3 ∷ []; answer = Refused (theory.Input OutOfRange 1) }
-    ∷ record { declarations = two_applications; atoms = two_equations; clause = []; hint = 9 ∷ []; answer = Refused (theory.Input OutOfRange 2) }
-    ∷ record { declarations = two_applications; atoms = two_equations; clause = []; hint = []; answer = Refused (theory.Input WrongLength 2) }
+    ∷ record { declarations = two_applications; atoms = two_equations; clause = []; hint = 3 ∷ 1 ∷ []; answer = Err (theory.Input WrongLength 1) }
+    ∷ record { declarations = two_applications; atoms = two_equations; clause = []; hint = 3 ∷ 1 ∷ 3 ∷ []; answer = Err (theory.Input OutOfRange 1) }
+    ∷ record { declarations = two_applications; atoms = two_equations; clause = []; hint = 9 ∷ []; answer = Err (theory.Input OutOfRange 2) }
+    ∷ record { declarations = two_applications; atoms = two_equations; clause = []; hint = []; answer = Err (theory.Input WrongLength 2) }
     ∷ []
 
 -- values over the denominator 1, and whether they are admitted
 pub record AdmittedSo : Type 0 where
   pub numerators : List ℤ
-  pub answer : Judgement
+  pub answer : Answer
 
 abbrev pub admissions : List AdmittedSo
 admissions =
-    record { numerators = pos 0 ∷ pos 0 ∷ pos 0 ∷ pos 1 ∷ []; answer = No 1 }
-    ∷ record { numerators = pos 0 ∷ pos 0 ∷ pos 1 ∷ pos 1 ∷ []; answer = Yes }
+    record { numerators = pos 0 ∷ pos 0 ∷ pos 0 ∷ pos 1 ∷ []; answer = not_admitted 1 }
+    ∷ record { numerators = pos 0 ∷ pos 0 ∷ pos 1 ∷ pos 1 ∷ []; answer = Ok tt }
     -- a list of the wrong length
-    ∷ record { numerators = pos 0 ∷ []; answer = No 1 }
+    ∷ record { numerators = pos 0 ∷ []; answer = not_admitted 1 }
     ∷ []
 
 -- a declaration, and whether it is taken
 pub record DeclaredSo : Type 0 where
   pub body : List ℕ
-  pub answer : Result (Unit {0}) TheoryFault
+  pub answer : Answer
 
 abbrev pub declarations : List DeclaredSo
 declarations =

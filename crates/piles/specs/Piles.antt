@@ -1,7 +1,7 @@
 -- Theories piled up.
 use Rattle.calculus.specs.Kinds.{Kind}
 use Rattle.rows.specs.Linear.{linear}
-use Rattle.congruence.specs.Congruences.{congruence}
+use Rattle.congruences.specs.Congruences.{congruence}
 
 -- congruence over linear: layer 1 and layer 2
 abbrev pub congruent_linear : Kind

@@ -16,31 +16,29 @@ pub type CongruentLinear = Congruence<Linear>;
 pub type TwiceCongruent = Congruence<CongruentLinear>;
 
 // Every run over congruence over linear is sound.
-pub fn congruent_linear_sound() -> u8
+pub fn congruent_linear_sound()
     ensures { EveryRunSound congruent_linear }
 {
     law::<CongruentLinear>()
 }
 
 // Every run over congruence over congruence over linear is sound.
-pub fn twice_congruent_sound() -> u8
+pub fn twice_congruent_sound()
     ensures { EveryRunSound twice_congruent }
 {
     law::<TwiceCongruent>()
 }
 
 // Congruence over linear answers what the tables say.
-pub fn examples_stand() -> u8
+pub fn examples_stand()
     ensures { ExamplesStand }
-{
-    0
-}
+{}
 
 #[cfg(test)]
 mod tests {
     use super::CongruentLinear;
-    use calculus::{Judgement, Theory, Vouching};
-    use faults::{InputCause, TheoryFault};
+    use calculus::Theory;
+    use faults::{InputCause, StateCause, TheoryFault};
     use std::alloc::{AllocError, Global};
     use std::process::Abort;
     use std::test::Fail;
@@ -117,10 +115,11 @@ mod tests {
         assert!(rt; t.holds(2, &low, 1_000_000));
         assert!(rt; t.holds(3, &[1_000_000; 16], 1_000_000));
         assert!(rt; !t.holds(3, &[1_000_001; 16], 1_000_000));
-        assert_eq!(rt; t.admits(&high, 1_000_000), Judgement::Yes);
+        assert_eq!(rt; t.admits(&high, 1_000_000), Ok(()));
         assert!(rt; !t.holds(1, &low, 1_000_001));
         assert!(rt; !t.holds(1, &[-1_000_000_001; 16], 1));
-        assert_eq!(rt; t.admits(&high, 0), Judgement::No(1));
+        let refused = Err(TheoryFault::State(StateCause::NotAdmitted, 1));
+        assert_eq!(rt; t.admits(&high, 0), refused);
         Ok(())
     }
 
@@ -141,9 +140,9 @@ mod tests {
             -1, -2, -3, -4, -5, -6, -7, -8, -9, -10, -11, -12, -13, -14, -15, -16,
         ];
         match t.vouches(0, &clause, hint.as_slice()) {
-            Vouching::Vouched => Ok(true),
-            Vouching::Unvouched(_) => Ok(false),
-            Vouching::Refused(_) => Err(Fail::new("refused")),
+            Ok(()) => Ok(true),
+            Err(TheoryFault::State(StateCause::NotVouched, _)) => Ok(false),
+            Err(_) => Err(Fail::new("refused")),
         }
     }
 

@@ -1,9 +1,10 @@
 -- A question within the limits is answered by what it means.
-use Rattle.std.proofs.Common.{◌≡◌, ℕ, ◌+◌, ◌<◌, ◌≤◌, Bool, true, false, ◌&&◌, ltb, leb, List, [], ◌∷◌, map, length, get_or, ℤ, sym, refl, ap, ◌∙◌, arith}
+use Rattle.std.proofs.Common.{◌≡◌, ℕ, zero, suc, ◌+◌, ◌<◌, ◌≤◌, max, Bool, true, false, cond, not, ◌&&◌, ◌||◌, ltb, leb, List, [], ◌∷◌, map, ℤ, sym, refl, ap, ◌∙◌, arith}
 use Rattle.std.specs.List.{range_with_len, AllByRecursion}
-use Rattle.std.proofs.lemmas.List.FromFn.{length-range_with_len, get_or-range_with_len, length-map-range_with_len}
+use Rattle.std.proofs.lemmas.List.FromFn.{length-map-range_with_len}
+use Rattle.std.proofs.lemmas.List.Folds.{list_all-map}
 use Rattle.std.proofs.lemmas.Bool.{and_parts, and_from, ltb-true, lt-ltb, le-leb, eq-eqb, cond_both}
-use Rattle.calculus.specs.Lists.{every}
+use Rattle.calculus.specs.Lists.{every, highest}
 use Rattle.calculus.specs.Limits.{most_denominator, most_measures, most_numerator, within, sized}
 use Rattle.calculus.specs.Kinds.{Kind, Lawful}
 use Rattle.calculus.specs.Questions.{in_limits, says_mentioned, says_true}
@@ -48,20 +49,35 @@ numerators_limited K m t d h e = and_from _ _ (eq-eqb _ _ (length-map-range_with
     all_sized [] = refl
     all_sized (j ∷ js) = and_from _ _ (value_ranged j t (tidy_ranged t h)) (all_sized js)
 
--- loops over the measures, from 1 on: the place i is the measure i + 1
-module _ (t i : ℕ) (h : i < t) where
-  pub place : i < length (range_with_len 1 t)
-  place = omega (arith, length-range_with_len 1 t)
+-- what agrees at each measure agrees over the range of them
+module _ {Y : Type 0} (f g : ℕ → Y) (t : ℕ) (e : (j : ℕ) → within t j ≡ true → f j ≡ g j) where
+  same_from : (n a : ℕ) → 0 < a → a + n ≤ t + 1 → map f (range_with_len a n) ≡ map g (range_with_len a n)
+  same_from zero a p h = refl
+  same_from (suc n) a p h =
+      ap (λ y. y ∷ map f (range_with_len (a + 1) n)) (e a (and_from _ _ (lt-ltb 0 a p) (le-leb a t (omega (arith, h)))))
+      ∙ ap (λ ys. g a ∷ ys) (same_from n (a + 1) (omega arith) (omega (arith, h)))
 
-  pub measure_at : get_or (range_with_len 1 t) i 0 ≡ i + 1
-  measure_at = let e : 1 + i ≡ i + 1 = omega arith in get_or-range_with_len 1 t i 0 h ∙ e
+  same_over : map f (range_with_len 1 t) ≡ map g (range_with_len 1 t)
+  same_over = same_from t 1 (omega arith) (omega arith)
 
-pub places_end : (t i : ℕ) → t ≤ i → length (range_with_len 1 t) ≤ i
-places_end t i h = omega (arith, length-range_with_len 1 t)
+every_over : (p q : ℕ → Bool) (t : ℕ) → ((j : ℕ) → within t j ≡ true → p j ≡ q j) → every p (range_with_len 1 t) ≡ every q (range_with_len 1 t)
+every_over p q t e = sym (list_all-map (λ b. b) p (range_with_len 1 t)) ∙ ap (every (λ b. b)) (same_over p q t e) ∙ list_all-map (λ b. b) q (range_with_len 1 t)
 
-pub measure_within : (t i : ℕ) → i < t → within t (i + 1) ≡ true
-measure_within t i h = and_from _ _ (lt-ltb 0 (i + 1) (omega arith)) (le-leb (i + 1) t (omega arith))
+highest_map : {X : Type 0} (f : X → ℕ) (xs : List X) → highest (λ n. n) (map f xs) ≡ highest f xs
+highest_map f [] = refl
+highest_map f (x ∷ xs) = ap (max (f x)) (highest_map f xs)
 
-pub every_map : {X Y : Type 0} (p : Y → Bool) (f : X → Y) (xs : List X) → every p (map f xs) ≡ every (λ x. p (f x)) xs
-every_map p f [] = refl
-every_map p f (x ∷ xs) = ap (λ b. p (f x) && b) (every_map p f xs)
+highest_over : (f g : ℕ → ℕ) (t : ℕ) → ((j : ℕ) → within t j ≡ true → f j ≡ g j) → highest f (range_with_len 1 t) ≡ highest g (range_with_len 1 t)
+highest_over f g t e = sym (highest_map f (range_with_len 1 t)) ∙ ap (highest (λ n. n)) (same_over f g t e) ∙ highest_map g (range_with_len 1 t)
+
+-- the questions about each measure, answered by what they mean
+module _ (K : Kind) (lawful : Lawful K) (m : K.Model) (a n : ℕ) (h : n ≡ K.measures m) where
+  pub settled_so : (p : ℕ → Bool) → every (λ j. not (says_mentioned K m a j) || p j) (range_with_len 1 n) ≡ every (λ j. not (K.mentioned m a j) || p j) (range_with_len 1 (K.measures m))
+  settled_so p =
+      ap (λ k. every (λ j. not (says_mentioned K m a j) || p j) (range_with_len 1 k)) h
+      ∙ every_over (λ j. not (says_mentioned K m a j) || p j) (λ j. not (K.mentioned m a j) || p j) (K.measures m) (λ j w. ap (λ b. not b || p j) (mentioned_so K lawful m a j w))
+
+  pub levels_so : (f : ℕ → ℕ) → highest (λ j. cond (says_mentioned K m a j) (f j) 0) (range_with_len 1 n) ≡ highest (λ j. cond (K.mentioned m a j) (f j) 0) (range_with_len 1 (K.measures m))
+  levels_so f =
+      ap (λ k. highest (λ j. cond (says_mentioned K m a j) (f j) 0) (range_with_len 1 k)) h
+      ∙ highest_over (λ j. cond (says_mentioned K m a j) (f j) 0) (λ j. cond (K.mentioned m a j) (f j) 0) (K.measures m) (λ j w. ap (λ b. cond b (f j) 0) (mentioned_so K lawful m a j w))

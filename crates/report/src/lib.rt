@@ -11,15 +11,11 @@ mod outcome;
 pub use outcome::{LEAST_BUFFER, Outcome};
 
 // A verdict can be read back from its report.
-pub fn tells() -> u8
+pub fn tells()
     ensures { LinesTell }
-{
-    0
-}
+{}
 
 // The examples are written as their table says.
-pub fn examples_stand() -> u8
+pub fn examples_stand()
     ensures { ExamplesStand }
-{
-    0
-}
+{}

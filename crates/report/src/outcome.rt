@@ -12,7 +12,7 @@ use files::Stop;
 pub const LEAST_BUFFER: usize = 2048;
 
 // A verdict, or the file, by its number, in which something is refused, and where. Files are numbered from 1; 0 is none.
-#[derive(Clone, Copy)]
+#[derive(Drop)]
 pub enum Outcome {
     Impossible,
     Possible(Arrangement),

@@ -14,7 +14,8 @@ use Rattle.rows.specs.declared.Relation.TheVariants.{Less, AtMost, Equal}
 use Rattle.rows.specs.declared.Entry.{Entry}
 use Rattle.rows.specs.Rows.{Row, no_row, total, weight, compares, true_of, coefficient_of, turned_entry, same_relation}
 use Rattle.rows.specs.Hints.{denied_row, denial_of, allowed, coefficient_in, constant_in, strict, Part, column, constants, refutes, row_of, denial, parts}
-use Rattle.rows.proofs.Integers.{*ℤ-+ℤ, +ℤ-*ℤ, *ℤ-assoc, neg-*ℤ, swap_sums, same_true, times_le, times_lt, neg_times}
+use Rattle.calculus.proofs.Testing.{same_true}
+use Rattle.rows.proofs.Integers.{*ℤ-+ℤ, +ℤ-*ℤ, *ℤ-assoc, neg-*ℤ, swap_sums, times_le, times_lt, neg_times}
 
 -- the columns: a sum over the measures, one measure after another
 past_take : (n : ℕ) (xs : List ℤ) (i : ℕ) → n ≤ i → get_or (take n xs) i (pos 0) ≡ pos 0

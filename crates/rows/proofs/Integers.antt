@@ -1,11 +1,11 @@
 -- Laws of sums and products of whole numbers.
-use Rattle.std.proofs.Common.{◌≡◌, ℕ, ◌+◌, ◌*◌, ◌<◌, ◌≤◌, true, eqb, ℤ, pos, negsuc, ◌+ℤ◌, ◌*ℤ◌, neg_ℤ, ◌≤ℤ◌, ◌<ℤ◌, sym, refl, ap, ◌∙◌, subst, mul_assoc, add-mul, mul-le-mul_left, mul-lt-mul_of_pos_right, mul-add, arith}
+use Rattle.std.proofs.Common.{◌≡◌, ℕ, ◌+◌, ◌*◌, ◌<◌, ◌≤◌, true, ℤ, pos, negsuc, ◌+ℤ◌, ◌*ℤ◌, neg_ℤ, ◌≤ℤ◌, ◌<ℤ◌, sym, ap, ◌∙◌, subst, mul_assoc, add-mul, mul-le-mul_left, mul-lt-mul_of_pos_right, mul-add, arith}
 use native.Mathlib.Nat.{mul-lt-mul_of_pos_left}
 use lib.IntN.{*ℤ_comm}
 use Rattle.std.proofs.lemmas.Int.{ints}
-use Rattle.std.proofs.lemmas.Bool.{eqb-true, eq-eqb, false≢true}
 use borrow.Author.Differences.{up, down, sum_is_lem, product_is, neg_is, same_in}
 use Rattle.calculus.specs.Literals.{same}
+use Rattle.calculus.proofs.Testing.{same_refl}
 
 -- n * (a + b + c) = n * (d + e + f)
 times₃ : (n a b c d e f : ℕ) → a + b + c ≡ d + e + f → n * a + n * b + n * c ≡ n * d + n * e + n * f
@@ -39,21 +39,8 @@ neg-*ℤ a b = omega (arith, ints, ap (λ (x : ℕ). x * up b) (neg_is a).0, ap 
 pub swap_sums : (a b c d : ℤ) → (a +ℤ b) +ℤ (c +ℤ d) ≡ (a +ℤ c) +ℤ (b +ℤ d)
 swap_sums a b c d = omega (arith, ints)
 
-pub same_true : (a b : ℤ) → same a b ≡ true → a ≡ b
-same_true (pos a) (pos b) e = ap pos (eqb-true a b e)
-same_true (pos a) (negsuc b) e = absurd (false≢true e)
-same_true (negsuc a) (pos b) e = absurd (false≢true e)
-same_true (negsuc a) (negsuc b) e = ap negsuc (eqb-true a b e)
-
-eqb_self : (a : ℕ) → eqb a a ≡ true
-eqb_self a = eq-eqb a a refl
-
-same_self : (a : ℤ) → same a a ≡ true
-same_self (pos a) = eqb_self a
-same_self (negsuc a) = eqb_self a
-
 pub same_same : (a b : ℤ) → a ≡ b → same a b ≡ true
-same_same a b e = subst (λ (x : ℤ). same a x ≡ true) e (same_self a)
+same_same a b e = subst (λ (x : ℤ). same a x ≡ true) e (same_refl a)
 
 pub times_le : (m a b : ℤ) → pos 0 ≤ℤ m → a ≤ℤ b → (m *ℤ a) ≤ℤ (m *ℤ b)
 times_le (pos n) a b h k =

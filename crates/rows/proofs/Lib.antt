@@ -3,3 +3,4 @@ pub mod Farkas
 pub mod Splits
 pub mod Locals
 pub mod Lawfulness
+pub mod Alike

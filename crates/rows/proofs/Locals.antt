@@ -13,7 +13,8 @@ use Rattle.rows.specs.declared.Relation.TheVariants.{Less, AtMost, Equal}
 use Rattle.rows.specs.declared.Entry.{Entry}
 use Rattle.rows.specs.Rows.{Row, weight, compares, true_of, mentions, same_relation}
 use Rattle.rows.specs.Linear.{opposed, equates}
-use Rattle.rows.proofs.Integers.{+ℤ-*ℤ, *ℤ-assoc, neg-*ℤ, same_true, same_same, times_le, times_lt}
+use Rattle.calculus.proofs.Testing.{same_true}
+use Rattle.rows.proofs.Integers.{+ℤ-*ℤ, *ℤ-assoc, neg-*ℤ, same_same, times_le, times_lt}
 
 -- comparisons do not change when both sides are multiplied by a positive number
 under : (a b : ℤ) → lt_z a b ≡ true → a <ℤ b

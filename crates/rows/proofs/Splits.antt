@@ -10,7 +10,8 @@ use Rattle.rows.specs.declared.Relation.TheVariants.{Less, AtMost, Equal}
 use Rattle.rows.specs.declared.Entry.{Entry}
 use Rattle.rows.specs.Rows.{Row, weight, compares, true_of, turned_entry, turned, related_by, same_relation, same_entries, same_row}
 use Rattle.rows.specs.Hints.{row_of, affirms, some_affirms, halved, splits}
-use Rattle.rows.proofs.Integers.{same_true, same_same, neg-*ℤ}
+use Rattle.calculus.proofs.Testing.{same_true}
+use Rattle.rows.proofs.Integers.{same_same, neg-*ℤ}
 use Rattle.rows.proofs.Farkas.{weight_turned, true_by}
 
 relations : (R Q : Relation) → same_relation R Q ≡ true → R ≡ Q

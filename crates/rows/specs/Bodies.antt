@@ -1,12 +1,13 @@
 -- An atom's body: the relation (1 for <, 2 for ≤, 3 for =), the count k of entries, k times a measure and
 -- four bytes of its coefficient, and four bytes of the constant.
-use Rattle.std.specs.Prelude.{ℕ, ◌+◌, ◌*◌, Bool, true, cond, not, ◌&&◌, List, [], ◌∷◌, map, ℤ, pos, ◌==◌, nat_le, nat_lt, slice_index}
+use Rattle.std.specs.Prelude.{◌≡◌, ℕ, ◌+◌, ◌*◌, Bool, true, false, cond, not, ◌&&◌, List, [], ◌∷◌, map, ℤ, pos, Result, MatchResult, ◌==◌, nat_le, nat_lt, slice_index}
 use Rattle.std.specs.List.{range_with_len}
 use Rattle.numerals.specs.Numbers.{signed_word}
-use Rattle.calculus.specs.Limits.{sized}
+use Rattle.calculus.specs.Limits.{within, sized}
 use Rattle.calculus.specs.Literals.{same}
 use Rattle.rows.specs.declared.Relation.{Relation}
 use Rattle.rows.specs.declared.Relation.TheVariants.{Less, AtMost, Equal}
+use Rattle.rows.specs.declared.UnknownRelation.{UnknownRelation}
 use Rattle.rows.specs.declared.Entry.{Entry}
 use Rattle.rows.specs.Bounds.{most_size}
 use Rattle.rows.specs.Rows.{Row}
@@ -21,6 +22,10 @@ word_at bytes p = signed_word (byte_at bytes p) (byte_at bytes (p + 1)) (byte_at
 
 abbrev pub relation_of : ℕ → Relation
 relation_of b = cond (b == 1) Less (cond (b == 2) AtMost Equal)
+
+-- the result is the relation of a byte from 1 to 3, or an error with any other byte
+abbrev pub Decodes : ℕ → Result Relation UnknownRelation → Type 0
+Decodes b r = MatchResult r (λ R. (R ≡ relation_of b) × (within 3 b ≡ true)) (λ e. (e.0 ≡ b) × (within 3 b ≡ false))
 
 -- the entry i, counted from 0: five bytes each, behind the relation and the count
 abbrev pub entry_at : List ℕ → ℕ → Entry

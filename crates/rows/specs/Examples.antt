@@ -1,10 +1,8 @@
 -- Computed examples of the linear theory, over two measures.
-use Rattle.std.specs.Prelude.{◌≡◌, ℕ, List, [], ◌∷◌, ℤ, pos, negsuc, Ok, Err, Result}
+use Rattle.std.specs.Prelude.{◌≡◌, ℕ, List, [], ◌∷◌, ℤ, pos, negsuc, Ok, Err}
 use Rattle.std.specs.List.{AllByRecursion}
 use Rattle.faults.specs.declared.InputCause.TheVariants.{WrongLength, OutOfRange}
-use Rattle.faults.specs.declared.TheoryFault.{TheoryFault}
-use Rattle.calculus.specs.declared.Vouching.{Vouching}
-use Rattle.calculus.specs.declared.Vouching.TheVariants.{Vouched, Unvouched, Refused}
+use Rattle.calculus.specs.Kinds.{Answer, not_vouched}
 use Rattle.calculus.specs.Questions.{answered, left}
 use Rattle.rows.specs.Linear.{Table, input, linear}
 
@@ -42,35 +40,35 @@ pub record Asked : Type 0 where
   pub switches : ℕ
   pub clause : List ℤ
   pub hint : List ℕ
-  pub answer : Vouching
+  pub answer : Answer
 
 abbrev pub asked : List Asked
 asked =
     -- the multipliers 1, 1, 1 refute m1 + m2 ≤ 60, m1 ≥ 50 and m2 ≥ 12
-    record { atoms = budget; switches = 0; clause = negsuc 0 ∷ pos 2 ∷ pos 3 ∷ []; hint = 1 ∷ 0 ∷ 0 ∷ 0 ∷ 1 ∷ 0 ∷ 0 ∷ 0 ∷ 1 ∷ 0 ∷ 0 ∷ 0 ∷ 1 ∷ []; answer = Vouched }
-    ∷ record { atoms = budget; switches = 0; clause = negsuc 0 ∷ pos 2 ∷ pos 3 ∷ []; hint = 1 ∷ 0 ∷ 0 ∷ 0 ∷ 1 ∷ 0 ∷ 0 ∷ 0 ∷ 1 ∷ 0 ∷ 0 ∷ 0 ∷ 0 ∷ []; answer = Unvouched 1 }
+    record { atoms = budget; switches = 0; clause = negsuc 0 ∷ pos 2 ∷ pos 3 ∷ []; hint = 1 ∷ 0 ∷ 0 ∷ 0 ∷ 1 ∷ 0 ∷ 0 ∷ 0 ∷ 1 ∷ 0 ∷ 0 ∷ 0 ∷ 1 ∷ []; answer = Ok tt }
+    ∷ record { atoms = budget; switches = 0; clause = negsuc 0 ∷ pos 2 ∷ pos 3 ∷ []; hint = 1 ∷ 0 ∷ 0 ∷ 0 ∷ 1 ∷ 0 ∷ 0 ∷ 0 ∷ 1 ∷ 0 ∷ 0 ∷ 0 ∷ 0 ∷ []; answer = not_vouched 1 }
     -- five switches before the atoms, one of them in the clause with the multiplier 0, and with 1
-    ∷ record { atoms = budget; switches = 5; clause = pos 5 ∷ negsuc 5 ∷ pos 7 ∷ pos 8 ∷ []; hint = 1 ∷ 0 ∷ 0 ∷ 0 ∷ 0 ∷ 0 ∷ 0 ∷ 0 ∷ 1 ∷ 0 ∷ 0 ∷ 0 ∷ 1 ∷ 0 ∷ 0 ∷ 0 ∷ 1 ∷ []; answer = Vouched }
-    ∷ record { atoms = budget; switches = 5; clause = pos 5 ∷ negsuc 5 ∷ pos 7 ∷ pos 8 ∷ []; hint = 1 ∷ 0 ∷ 0 ∷ 0 ∷ 1 ∷ 0 ∷ 0 ∷ 0 ∷ 1 ∷ 0 ∷ 0 ∷ 0 ∷ 1 ∷ 0 ∷ 0 ∷ 0 ∷ 1 ∷ []; answer = Unvouched 1 }
+    ∷ record { atoms = budget; switches = 5; clause = pos 5 ∷ negsuc 5 ∷ pos 7 ∷ pos 8 ∷ []; hint = 1 ∷ 0 ∷ 0 ∷ 0 ∷ 0 ∷ 0 ∷ 0 ∷ 0 ∷ 1 ∷ 0 ∷ 0 ∷ 0 ∷ 1 ∷ 0 ∷ 0 ∷ 0 ∷ 1 ∷ []; answer = Ok tt }
+    ∷ record { atoms = budget; switches = 5; clause = pos 5 ∷ negsuc 5 ∷ pos 7 ∷ pos 8 ∷ []; hint = 1 ∷ 0 ∷ 0 ∷ 0 ∷ 1 ∷ 0 ∷ 0 ∷ 0 ∷ 1 ∷ 0 ∷ 0 ∷ 0 ∷ 1 ∷ 0 ∷ 0 ∷ 0 ∷ 1 ∷ []; answer = not_vouched 1 }
     -- a negative multiplier on a ≤
-    ∷ record { atoms = budget; switches = 0; clause = negsuc 0 ∷ []; hint = 1 ∷ 255 ∷ 255 ∷ 255 ∷ 255 ∷ []; answer = Unvouched 1 }
+    ∷ record { atoms = budget; switches = 0; clause = negsuc 0 ∷ []; hint = 1 ∷ 255 ∷ 255 ∷ 255 ∷ 255 ∷ []; answer = not_vouched 1 }
     -- an atom that is not there
-    ∷ record { atoms = budget; switches = 0; clause = negsuc 0 ∷ pos 2 ∷ pos 3 ∷ pos 4 ∷ []; hint = 1 ∷ 0 ∷ 0 ∷ 0 ∷ 1 ∷ 0 ∷ 0 ∷ 0 ∷ 1 ∷ 0 ∷ 0 ∷ 0 ∷ 1 ∷ 0 ∷ 0 ∷ 0 ∷ 0 ∷ []; answer = Unvouched 1 }
+    ∷ record { atoms = budget; switches = 0; clause = negsuc 0 ∷ pos 2 ∷ pos 3 ∷ pos 4 ∷ []; hint = 1 ∷ 0 ∷ 0 ∷ 0 ∷ 1 ∷ 0 ∷ 0 ∷ 0 ∷ 1 ∷ 0 ∷ 0 ∷ 0 ∷ 1 ∷ 0 ∷ 0 ∷ 0 ∷ 0 ∷ []; answer = not_vouched 1 }
     -- a multiplier too few, one beyond its range, and a kind that is not known
-    ∷ record { atoms = budget; switches = 0; clause = negsuc 0 ∷ pos 2 ∷ pos 3 ∷ []; hint = 1 ∷ 0 ∷ 0 ∷ 0 ∷ 1 ∷ 0 ∷ 0 ∷ 0 ∷ 1 ∷ []; answer = Refused (input WrongLength) }
-    ∷ record { atoms = budget; switches = 0; clause = pos 2 ∷ []; hint = 1 ∷ 5 ∷ 245 ∷ 225 ∷ 1 ∷ []; answer = Refused (input OutOfRange) }
-    ∷ record { atoms = budget; switches = 0; clause = pos 2 ∷ []; hint = 3 ∷ []; answer = Refused (input OutOfRange) }
+    ∷ record { atoms = budget; switches = 0; clause = negsuc 0 ∷ pos 2 ∷ pos 3 ∷ []; hint = 1 ∷ 0 ∷ 0 ∷ 0 ∷ 1 ∷ 0 ∷ 0 ∷ 0 ∷ 1 ∷ []; answer = Err (input WrongLength) }
+    ∷ record { atoms = budget; switches = 0; clause = pos 2 ∷ []; hint = 1 ∷ 5 ∷ 245 ∷ 225 ∷ 1 ∷ []; answer = Err (input OutOfRange) }
+    ∷ record { atoms = budget; switches = 0; clause = pos 2 ∷ []; hint = 3 ∷ []; answer = Err (input OutOfRange) }
     -- a split, and the same without its last part
-    ∷ record { atoms = three; switches = 0; clause = pos 1 ∷ pos 2 ∷ pos 3 ∷ []; hint = 2 ∷ []; answer = Vouched }
-    ∷ record { atoms = three; switches = 0; clause = pos 1 ∷ pos 2 ∷ []; hint = 2 ∷ []; answer = Unvouched 1 }
+    ∷ record { atoms = three; switches = 0; clause = pos 1 ∷ pos 2 ∷ pos 3 ∷ []; hint = 2 ∷ []; answer = Ok tt }
+    ∷ record { atoms = three; switches = 0; clause = pos 1 ∷ pos 2 ∷ []; hint = 2 ∷ []; answer = not_vouched 1 }
     -- m1 < 50 and m2 ≥ 50 do not refute one another: each row lacks the other's measure
-    ∷ record { atoms = apart; switches = 0; clause = negsuc 0 ∷ pos 2 ∷ []; hint = 1 ∷ 0 ∷ 0 ∷ 0 ∷ 1 ∷ 0 ∷ 0 ∷ 0 ∷ 1 ∷ []; answer = Unvouched 1 }
+    ∷ record { atoms = apart; switches = 0; clause = negsuc 0 ∷ pos 2 ∷ []; hint = 1 ∷ 0 ∷ 0 ∷ 0 ∷ 1 ∷ 0 ∷ 0 ∷ 0 ∷ 1 ∷ []; answer = not_vouched 1 }
     ∷ []
 
 -- a body, and whether it is taken
 pub record Offered : Type 0 where
   pub body : List ℕ
-  pub answer : Result (Unit {0}) TheoryFault
+  pub answer : Answer
 
 abbrev pub offered : List Offered
 offered =

@@ -1,18 +1,15 @@
 -- The linear theory: its atoms are rows over the measures, and it admits every arrangement.
-use Rattle.std.specs.Prelude.{ℕ, ◌+◌, ◌*◌, Bool, true, false, cond, not, ◌&&◌, ◌||◌, ◌⊎◌, List, [], ◌∷◌, ◌++◌, length, ℤ, pos, ◌+ℤ◌, ◌==◌, nat_le, nat_lt}
+use Rattle.std.specs.Prelude.{ℕ, ◌+◌, ◌*◌, Bool, true, false, cond, not, ◌&&◌, ◌||◌, ◌⊎◌, List, [], ◌∷◌, ◌++◌, length, ℤ, pos, ◌+ℤ◌, Ok, Err, ◌==◌, nat_le, nat_lt}
 use Rattle.std.proofs.Common.{inl, inr}
 use Rattle.faults.specs.declared.InputCause.{InputCause}
 use Rattle.faults.specs.declared.InputCause.TheVariants.{WrongLength, OutOfRange}
 use Rattle.faults.specs.declared.StateCause.TheVariants.{WrongPhase, Full}
 use Rattle.faults.specs.declared.TheoryFault.{TheoryFault}
 use Rattle.faults.specs.declared.TheoryFault.TheVariants as theory
-use Rattle.calculus.specs.declared.Judgement.TheVariants.{Yes}
-use Rattle.calculus.specs.declared.Vouching.{Vouching}
-use Rattle.calculus.specs.declared.Vouching.TheVariants.{Vouched, Unvouched, Refused}
 use Rattle.calculus.specs.Lists.{every, nth}
 use Rattle.calculus.specs.Limits.{most_measures, within, sized}
 use Rattle.calculus.specs.Literals.{same}
-use Rattle.calculus.specs.Kinds.{Kind}
+use Rattle.calculus.specs.Kinds.{Kind, Answer, not_vouched}
 use Rattle.rows.specs.declared.Relation.TheVariants.{Equal}
 use Rattle.rows.specs.declared.Entry.{Entry}
 use Rattle.rows.specs.Bounds.{most_atoms, most_size}
@@ -83,31 +80,31 @@ equates i j r = same_relation r.relation Equal && (same r.constant (pos 0) && op
 abbrev pub equating : Table → ℕ → ℕ → ℕ → Bool
 equating m a i j = within (length m.rows) a && (within m.measures i && (within m.measures j && equates i j (atom m a)))
 
-abbrev pub if_shown : Bool → Vouching
-if_shown b = cond b Vouched (Unvouched 1)
+abbrev pub if_shown : Bool → Answer
+if_shown b = cond b (Ok tt) (not_vouched 1)
 
 -- the hint of kind 1: one multiplier for each literal
-abbrev pub by_multipliers : Table → ℕ → List ℤ → List ℕ → Vouching
+abbrev pub by_multipliers : Table → ℕ → List ℤ → List ℕ → Answer
 by_multipliers m s ls hint =
     cond (length hint == 1 + 4 * length ls)
     (cond (every (sized most_size) (multipliers (length ls) hint))
     (if_shown (all_known m.rows s ls && refutes m.measures (hinted_parts m.rows s ls hint)))
-    (Refused (input OutOfRange)))
-    (Refused (input WrongLength))
+    (Err (input OutOfRange)))
+    (Err (input WrongLength))
 
 -- the hint of kind 2, which is its kind alone
-abbrev pub by_split : Table → ℕ → List ℤ → List ℕ → Vouching
+abbrev pub by_split : Table → ℕ → List ℤ → List ℕ → Answer
 by_split m s ls hint =
     cond (length hint == 1)
     (if_shown (all_known m.rows s ls && splits m.rows s ls))
-    (Refused (input WrongLength))
+    (Err (input WrongLength))
 
-abbrev pub vouching : Table → ℕ → List ℤ → List ℕ → Vouching
+abbrev pub vouching : Table → ℕ → List ℤ → List ℕ → Answer
 vouching m s ls hint =
-    cond (length hint == 0) (Refused (input WrongLength))
+    cond (length hint == 0) (Err (input WrongLength))
     (cond (byte_at hint 0 == 1) (by_multipliers m s ls hint)
     (cond (byte_at hint 0 == 2) (by_split m s ls hint)
-    (Refused (input OutOfRange))))
+    (Err (input OutOfRange))))
 
 abbrev pub linear : Kind
 linear = record {
@@ -122,7 +119,7 @@ linear = record {
   atoms = λ m. length m.rows;
   mentioned = λ m a j. mentions j (atom m a);
   truth = λ m a xs d. true_of (atom m a) xs d;
-  admitted = λ m xs d. Yes;
+  admitted = λ m xs d. Ok tt;
   equated = equating;
   vouched = vouching;
 }

@@ -3,37 +3,46 @@
 
 ghost use Rattle.std.specs.Prelude.{◌≡◌};
 ghost use Rattle.calculus.specs.Kinds.{Lawful};
-ghost use Rattle.rows.specs.Rows.{compares, same_relation};
+ghost use Rattle.rows.specs.Rows.{compares};
+ghost use Rattle.rows.specs.Bodies.{Decodes};
 ghost use Rattle.rows.specs.Linear.{linear};
 ghost use Rattle.rows.specs.Examples.{ExamplesStand};
 
-#[derive(Clone, Copy)]
+// How a row compares with its constant.
+#[derive(Clone, Copy, Debug, PartialEq, Eq)]
 pub enum Relation {
     Less,
     AtMost,
     Equal,
 }
 
+// A byte that stands for no relation.
+#[derive(Clone, Copy, Debug, PartialEq, Eq)]
+pub struct UnknownRelation(pub u8);
+
 // A measure and its coefficient.
-#[derive(Clone, Copy)]
+#[derive(Clone, Copy, Debug, Default, PartialEq, Eq)]
 pub struct Entry {
     pub measure: u8,
     pub coefficient: i32,
 }
 
-impl Relation {
-    // Whether the relations are the same.
-    pub fn is(self, other: Relation) -> bool
-        ensures { result ≡ same_relation self other }
-    {
-        match (self, other) {
-            (Relation::Less, Relation::Less) => true,
-            (Relation::AtMost, Relation::AtMost) => true,
-            (Relation::Equal, Relation::Equal) => true,
-            _ => false,
+impl TryFrom<u8> for Relation {
+    type Error = UnknownRelation;
+
+    ghost try_from_gives = { Decodes };
+
+    fn try_from(byte: u8) -> Result<Self, UnknownRelation> {
+        match byte {
+            1 => Ok(Relation::Less),
+            2 => Ok(Relation::AtMost),
+            3 => Ok(Relation::Equal),
+            _ => Err(UnknownRelation(byte)),
         }
     }
+}
 
+impl Relation {
     // Whether the relation is met.
     pub fn compares(self, a: i64, b: i64) -> bool
         ensures { result ≡ compares self a b }
@@ -47,15 +56,11 @@ impl Relation {
 }
 
 // The linear theory keeps the laws.
-pub fn laws_stand() -> u8
+pub fn laws_stand()
     ensures { Lawful linear }
-{
-    0
-}
+{}
 
 // The examples are answered as their table says.
-pub fn examples_stand() -> u8
+pub fn examples_stand()
     ensures { ExamplesStand }
-{
-    0
-}
+{}

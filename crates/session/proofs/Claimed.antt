@@ -13,18 +13,18 @@ use Rattle.calculus.specs.Trails.{Entry, valued, numerators}
 use Rattle.calculus.specs.States.{State, Stored, is_searching, meets}
 use Rattle.calculus.specs.States.Phase.{Closed}
 use Rattle.calculus.specs.States.Verdict.{Possible}
-use Rattle.calculus.specs.Steps.{step, arranged, if_admitted, turned}
+use Rattle.calculus.specs.Steps.{step, arranged, if_agreed, turned}
 use Rattle.calculus.specs.Steps.Reply.{Handed}
 use Rattle.tables.specs.Keys.{tidy}
 use Rattle.readings.proofs.Asking.{numerators_limited}
 use Rattle.session.proofs.Needing.{need_yes}
 
 module _ (K : Kind) (s : State K) where
-  abbrev rules_met : Bool
+  abbrev pub rules_met : Bool
   rules_met = every (λ (r : Stored). not r.rule || meets K s.model s.switches (arranged K s) r.literals) s.clauses
 
   pub claim_tested : is_searching s.phase ≡ true → every (λ j. valued j s.trail) (range_with_len 1 (K.measures s.model)) ≡ true → rules_met ≡ true
-      → step K s Claim ≡ if_admitted K (K.admitted s.model (numerators K s.model s.trail) s.denominator) s (Handed (arranged K s)) (turned K s (Closed (Possible (arranged K s))) [])
+      → step K s Claim ≡ if_agreed K (K.admitted s.model (numerators K s.model s.trail) s.denominator) s (Handed (arranged K s)) (turned K s (Closed (Possible (arranged K s))) [])
   claim_tested p v m =
       need_yes K (is_searching s.phase) (session.State WrongPhase) s _ p
       ∙ need_yes K (every (λ j. valued j s.trail) (range_with_len 1 (K.measures s.model))) (session.State NoValue) s _ v

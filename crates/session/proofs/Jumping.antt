@@ -37,8 +37,5 @@ module _ (K : Kind) (s : State K) (l : ℤ) (p : is_analysing s.phase ≡ true) 
       pub jump_forced : ltb next top ≡ true → step K s (Jump l) ≡ (Ok Done, forced K s l next)
       jump_forced y = tested ∙ need_yes K _ _ s _ x ∙ cond-true _ _ _ y
 
-      pub jump_unread : ltb next top ≡ false → all_read s.trail top s.open_clause ≡ false → step K s (Jump l) ≡ (Err (session.State NotAllowed), s)
-      jump_unread y z = tested ∙ need_yes K _ _ s _ x ∙ cond-false _ _ _ y ∙ need_no K _ _ s _ z
-
       pub jump_split : ltb next top ≡ false → all_read s.trail top s.open_clause ≡ true → step K s (Jump l) ≡ (Ok Done, split K s l (top - 1))
       jump_split y z = tested ∙ need_yes K _ _ s _ x ∙ cond-false _ _ _ y ∙ need_yes K _ _ s _ z

@@ -1,17 +1,17 @@
 // Conflict analysis: conflict, resolve, jump and concede; and abandon.
-ghost use Rattle.std.specs.Prelude.{◌≡◌, ◌<◌, Bool, true, ◌&&◌, ◌==◌, nat_eq, nat_lt};
+ghost use Rattle.std.specs.Prelude.{◌≡◌, ◌<◌, Bool, true, ◌&&◌, ◌==◌, nat_lt};
 ghost use Rattle.calculus.specs.Calls.Call.{Conflict as to_conflict, Resolve as to_resolve, Jump as to_jump, Concede as to_concede, Abandon as to_abandon};
-ghost use Rattle.calculus.specs.Lists.{some};
-ghost use Rattle.calculus.specs.Literals.{number, proper};
+ghost use Rattle.calculus.specs.Literals.{proper};
 ghost use Rattle.calculus.specs.Trails.{false_at};
 ghost use Rattle.calculus.specs.Steps.{has_room, forced, split};
-ghost use Rattle.tables.specs.Tables.{trail_of, literals_of};
+ghost use Rattle.tables.specs.Tables.{trail_of};
 ghost use Rattle.session.specs.Views.{view, Steps, Spends};
 
 use super::phase::{Kind, Phase};
 use super::{Conflict, Session};
 use calculus::Theory;
 use faults::{InputCause, SessionFault, StateCause};
+use std::mem;
 use tables::clause::Clause;
 use tables::entry::{Entry, Origin};
 use tables::literals::is_proper;
@@ -49,24 +49,18 @@ impl<T: Theory> Session<T> {
         if !self.counts.has(n) {
             return Err(SessionFault::State(StateCause::Absent));
         }
-        let literal = self.analysed.literal_on(n);
-        let reason = self.trail.reason_of_denial(literal);
-        if !self.is_resolvable(n, reason) {
+        let Some(literal) = self.analysed.literal_on(n) else {
             return Err(SessionFault::State(StateCause::NotResolvable));
-        }
+        };
+        let Some(reason) = self.trail.reason_of_denial(literal) else {
+            return Err(SessionFault::State(StateCause::NotResolvable));
+        };
         let because = self.store.literals(reason);
         let Some(resolved) = self.analysed.resolved(literal, because) else {
             return Err(SessionFault::State(StateCause::ResolventTooLong));
         };
         self.analysed = resolved;
         Ok(())
-    }
-
-    // The analysed clause has a literal on the number, and there is a reason.
-    fn is_resolvable(&self, n: u8, reason: u8) -> bool
-        ensures { result ≡ (some (λ k. nat_eq (number k) n) (literals_of self.now.analysed) && nat_lt 0 reason) }
-    {
-        self.analysed.has_number(n) && 0 < reason
     }
 
     // Stores the analysed clause and goes back: to where it forces the literal, or, if the values made it false, to the
@@ -132,7 +126,8 @@ impl<T: Theory> Session<T> {
         ensures { view T.Theory.kind T.Theory.model self.new ≡ forced T.Theory.kind (view T.Theory.kind T.Theory.model self.old) literal level }
     {
         let number = self.store.len() + 1;
-        self.store.push(self.analysed, false);
+        let learnt = mem::take(&mut self.analysed);
+        self.store.push(learnt, false);
         self.trail.keep_up_to(level);
         self.trail.push(Entry::Literal {
             literal,
@@ -140,7 +135,6 @@ impl<T: Theory> Session<T> {
             origin: Origin::Propagated(number),
         });
         self.phase = Phase::Searching;
-        self.analysed = Clause::empty();
     }
 
     // Back to the level, behind which the literal is chosen.
@@ -150,7 +144,8 @@ impl<T: Theory> Session<T> {
         requires below_denial { level < false_at (trail_of self.old.trail) literal }
         ensures { view T.Theory.kind T.Theory.model self.new ≡ split T.Theory.kind (view T.Theory.kind T.Theory.model self.old) literal level }
     {
-        self.store.push(self.analysed, false);
+        let learnt = mem::take(&mut self.analysed);
+        self.store.push(learnt, false);
         self.trail.keep_up_to(level);
         let next = self.trail.choices() + 1;
         self.trail.push(Entry::Literal {
@@ -159,7 +154,6 @@ impl<T: Theory> Session<T> {
             origin: Origin::Chosen,
         });
         self.phase = Phase::Searching;
-        self.analysed = Clause::empty();
     }
 
     // Closes as impossible, where the clause is false without any choice.

@@ -1,17 +1,31 @@
 // The claim of an arrangement.
-ghost use Rattle.std.specs.Prelude.{◌≡◌};
-ghost use Rattle.session.specs.Views.{Claims};
+ghost use Rattle.std.specs.Prelude.{◌≡◌, not, ◌||◌};
+ghost use Rattle.calculus.specs.Lists.{every};
+ghost use Rattle.calculus.specs.States.{meets};
+ghost use Rattle.calculus.specs.Steps.{arranged};
+ghost use Rattle.tables.specs.Tables.{store_of};
+ghost use Rattle.session.specs.Views.{view, Claims};
 
 use super::Session;
 use super::phase::{Kind, Phase};
-use calculus::{Judgement, Theory};
+use calculus::Theory;
 use claims::arrangement::Arrangement;
-use claims::arrangement::arranging::arrange;
-use claims::{are_rules_met, are_valued};
-use faults::{SessionFault, StateCause, TheoryFault};
+use claims::{Claim, are_valued};
+use faults::{SessionFault, StateCause};
 use tables::clause::Clause;
 
 impl<T: Theory> Session<T> {
+    // The arrangement that the trail makes meets every rule.
+    fn are_rules_met(&self) -> bool
+        ensures { result ≡ every (λ r. not r.rule || meets T.Theory.kind (T.Theory.model self.now.theory) self.now.counts.switches (arranged T.Theory.kind (view T.Theory.kind T.Theory.model self.now)) r.literals) (store_of self.now.store) }
+    {
+        let claim = Claim {
+            reading: self.reading(),
+            trail: &self.trail,
+        };
+        claim.are_rules_met(&self.store)
+    }
+
     // Closes as possible, and hands out the arrangement that the trail makes.
     pub fn claim(&mut self) -> Result<Arrangement, SessionFault>
         ensures { Claims T.Theory.kind T.Theory.model self.old result self.new }
@@ -22,28 +36,14 @@ impl<T: Theory> Session<T> {
         if !are_valued(&self.theory, &self.trail) {
             return Err(SessionFault::State(StateCause::NoValue));
         }
-        let switches = self.counts.switches();
-        let denominator = self.counts.denominator();
-        if !are_rules_met(
-            &self.theory,
-            switches,
-            denominator,
-            &self.trail,
-            &self.store,
-        ) {
+        if !self.are_rules_met() {
             return Err(SessionFault::State(StateCause::RuleUnmet));
         }
-        let arrangement = arrange(&self.theory, switches, denominator, &self.trail);
-        match self.theory.admits(arrangement.numerators(), denominator) {
-            Judgement::No(layer) => {
-                let fault = TheoryFault::State(StateCause::NotAdmitted, layer);
-                Err(SessionFault::Theory(fault))
-            }
-            Judgement::Yes => {
-                self.phase = Phase::Possible;
-                self.analysed = Clause::empty();
-                Ok(arrangement)
-            }
-        }
+        let arrangement = self.arrangement();
+        self.theory
+            .admits(arrangement.numerators(), self.counts.denominator())?;
+        self.phase = Phase::Possible;
+        self.analysed = Clause::empty();
+        Ok(arrangement)
     }
 }

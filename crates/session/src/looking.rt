@@ -8,8 +8,8 @@ ghost use Rattle.session.specs.Views.{view};
 use super::Session;
 use super::phase::Phase;
 use calculus::Theory;
-use claims::arrangement::Arrangement;
-use claims::arrangement::arranging::arrange;
+use claims::arrangement::{Arrangement, arrange};
+use readings::{Atoms, Reading};
 use tables::store::Store;
 use tables::trail::Trail;
 
@@ -44,6 +44,29 @@ impl<T: Theory> Session<T> {
         ensures { result.now ≡ (view T.Theory.kind T.Theory.model self.now).open_clause }
     {
         self.analysed.literals()
+    }
+
+    // The atoms under their numbers.
+    pub(crate) fn atoms(&self) -> Atoms<'_, T>
+        ensures theory { result.theory.now ≡ self.now.theory }
+        ensures switches { result.switches ≡ self.now.counts.switches }
+    {
+        Atoms {
+            theory: &self.theory,
+            switches: self.counts.switches(),
+        }
+    }
+
+    // The atoms, with the denominator of all values.
+    pub(crate) fn reading(&self) -> Reading<'_, T>
+        ensures theory { result.atoms.theory.now ≡ self.now.theory }
+        ensures switches { result.atoms.switches ≡ self.now.counts.switches }
+        ensures denominator { result.denominator ≡ self.now.counts.denominator }
+    {
+        Reading {
+            atoms: self.atoms(),
+            denominator: self.counts.denominator(),
+        }
     }
 
     // The arrangement that the trail makes; of a session that closed as possible, the one that was claimed.

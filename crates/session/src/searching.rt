@@ -1,24 +1,39 @@
 // The search: lemma, choose, set, propagate and read.
-ghost use Rattle.std.specs.Prelude.{◌≡◌, ◌≤◌, true, false, ◌&&◌};
+ghost use Rattle.std.specs.Prelude.{◌≡◌, ◌-◌, ◌≤◌, true, false, ◌&&◌, length, take};
 ghost use Rattle.calculus.specs.Calls.Call.{Lemma as to_lemma, Choose as to_choose, Set as to_set, Propagate as to_propagate, Read as to_read};
-ghost use Rattle.calculus.specs.Limits.{most_numerator, within, sized};
-ghost use Rattle.calculus.specs.Trails.{valued, enter_choice, reading};
+ghost use Rattle.calculus.specs.Lists.{every};
+ghost use Rattle.calculus.specs.Limits.{most_measures, most_numerator, within, sized};
+ghost use Rattle.calculus.specs.Trails.{valued, enter_choice, reading, stays_true};
 ghost use Rattle.calculus.specs.Trails.Content.{Value};
 ghost use Rattle.calculus.specs.Literals.{holds_literal};
 ghost use Rattle.calculus.specs.States.{clause as clause_at};
-ghost use Rattle.calculus.specs.Steps.{readable_in, bears, others_false};
+ghost use Rattle.calculus.specs.Steps.{readable_in, others_false};
 ghost use Rattle.tables.specs.Tables.{trail_of, store_of};
 ghost use Rattle.session.specs.Views.{view, Steps};
 
 use super::Session;
 use super::phase::Kind;
-use calculus::limits::is_numerator;
-use calculus::{Theory, Vouching};
-use faults::{InputCause, SessionFault, StateCause, TheoryFault};
+use calculus::Theory;
+use calculus::limits::{is_numerator, is_within};
+use faults::{InputCause, SessionFault, StateCause};
 use tables::clause::Clause;
 use tables::entry::{Entry, Origin};
 use tables::literals::{are_proper, holds_literal, is_clause_like, is_proper};
 use tables::trail::Trail;
+
+// Enters a value for the measure, as a choice.
+fn enter_value(trail: &mut Trail, measure: u8, numerator: i32)
+    requires in_range { (within most_measures measure && sized most_numerator numerator) ≡ true }
+    requires no_value { valued measure (trail_of trail.old) ≡ false }
+    ensures { trail_of trail.new ≡ enter_choice (trail_of trail.old) (Value measure numerator) }
+{
+    let level = trail.choices() + 1;
+    trail.push(Entry::Value {
+        measure,
+        numerator,
+        level,
+    });
+}
 
 impl<T: Theory> Session<T> {
     // Stores a clause that the theory vouches for.
@@ -40,20 +55,12 @@ impl<T: Theory> Session<T> {
         if !self.counts.has_all(literals) {
             return Err(SessionFault::State(StateCause::Absent));
         }
-        match self.theory.vouches(self.counts.switches(), literals, hint) {
-            Vouching::Refused(fault) => Err(SessionFault::Theory(fault)),
-            Vouching::Unvouched(layer) => {
-                let fault = TheoryFault::State(StateCause::NotVouched, layer);
-                Err(SessionFault::Theory(fault))
-            }
-            Vouching::Vouched => {
-                let Some(clause) = Clause::of(literals) else {
-                    return Err(SessionFault::Input(InputCause::BadClause));
-                };
-                self.store.push(clause, false);
-                Ok(())
-            }
-        }
+        self.theory.vouches(self.counts.switches(), literals, hint)?;
+        let Some(clause) = Clause::of(literals) else {
+            return Err(SessionFault::Input(InputCause::BadClause));
+        };
+        self.store.push(clause, false);
+        Ok(())
     }
 
     // Enters a literal as a decision.
@@ -98,47 +105,30 @@ impl<T: Theory> Session<T> {
         if self.trail.is_valued(measure) {
             return Err(SessionFault::State(StateCause::Taken));
         }
-        let next = self.with_value(measure, numerator);
-        if !self.bears(&next) {
+        enter_value(&mut self.trail, measure, numerator);
+        if !self.bears_last() {
+            self.trail.pop();
             return Err(SessionFault::State(StateCause::ContradictsTrail));
         }
-        self.trail = next;
         Ok(())
-    }
-
-    // The trail with a value for the measure.
-    fn with_value(&self, measure: u8, numerator: i32) -> Trail
-        requires in_range { (within (T.Theory.kind.measures (T.Theory.model self.now.theory)) measure && sized most_numerator numerator) ≡ true }
-        requires no_value { valued measure (trail_of self.now.trail) ≡ false }
-        ensures { trail_of result ≡ enter_choice (trail_of self.now.trail) (Value measure numerator) }
-    {
-        let level = self.trail.choices() + 1;
-        let mut next = self.trail;
-        next.push(Entry::Value {
-            measure,
-            numerator,
-            level,
-        });
-        next
     }
 
     // There is such a measure, and the numerator is in its range.
     fn takes_value(&self, measure: u8, numerator: i32) -> bool
         ensures { result ≡ (within (T.Theory.kind.measures (T.Theory.model self.now.theory)) measure && sized most_numerator numerator) }
     {
-        0 < measure && measure <= self.theory.measures() && is_numerator(numerator)
+        is_within(usize::from(self.theory.measures()), usize::from(measure))
+            && is_numerator(numerator)
     }
 
-    fn bears(&self, next: &Trail) -> bool
-        ensures { result ≡ bears T.Theory.kind (view T.Theory.kind T.Theory.model self.now) (trail_of next.now) }
+    // Every literal that becomes readable with the last entry of the trail is true on it.
+    fn bears_last(&self) -> bool
+        ensures { result ≡ every (λ e. stays_true T.Theory.kind (T.Theory.model self.now.theory) self.now.counts.switches self.now.counts.denominator (take (length (trail_of self.now.trail) - 1) (trail_of self.now.trail)) (trail_of self.now.trail) e.content) (take (length (trail_of self.now.trail) - 1) (trail_of self.now.trail)) }
     {
-        readings::bears(
-            &self.theory,
-            self.counts.switches(),
-            self.counts.denominator(),
-            &self.trail,
-            next,
-        )
+        match self.trail.entries() {
+            [before @ .., _] => self.reading().bears(before, &self.trail),
+            [] => true,
+        }
     }
 
     // Enters a literal that a clause forces.
@@ -184,7 +174,7 @@ impl<T: Theory> Session<T> {
     fn is_readable(&self, number: u8) -> bool
         ensures { result ≡ readable_in T.Theory.kind (view T.Theory.kind T.Theory.model self.now) number }
     {
-        readings::is_readable(&self.theory, self.counts.switches(), &self.trail, number)
+        self.atoms().is_readable(self.trail.entries(), number)
     }
 
     // Enters an atom as the values make it.
@@ -203,13 +193,8 @@ impl<T: Theory> Session<T> {
         if !self.is_readable(number) {
             return Err(SessionFault::State(StateCause::WrongReadability));
         }
-        let literal = self.reading(number);
-        let level = readings::reading_level(
-            &self.theory,
-            self.counts.switches(),
-            &self.trail,
-            number,
-        );
+        let literal = self.literal_read(number);
+        let level = self.atoms().reading_level(&self.trail, number);
         self.trail.push(Entry::Literal {
             literal,
             level,
@@ -219,14 +204,12 @@ impl<T: Theory> Session<T> {
     }
 
     // The atom, or its denial, whichever the values make true.
-    fn reading(&self, number: u8) -> i8
+    fn literal_read(&self, number: u8) -> i8
         requires { number ≤ 127 }
         ensures { result ≡ reading T.Theory.kind (T.Theory.model self.now.theory) self.now.counts.switches self.now.counts.denominator (trail_of self.now.trail) number }
     {
         let literal = number as i8;
-        let switches = self.counts.switches();
-        let denominator = self.counts.denominator();
-        if readings::is_true(&self.theory, switches, denominator, &self.trail, literal) {
+        if self.reading().is_true(&self.trail, literal) {
             literal
         } else {
             -literal

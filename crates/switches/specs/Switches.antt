@@ -1,12 +1,10 @@
 -- The theory of switches only: no measures, no atoms, and every arrangement is admitted.
-use Rattle.std.specs.Prelude.{ℕ, Bool, true, false, cond, ◌⊎◌, List, [], ◌∷◌, ◌==◌}
+use Rattle.std.specs.Prelude.{ℕ, Bool, true, false, cond, ◌⊎◌, List, [], ◌∷◌, Ok, Err, ◌==◌}
 use Rattle.std.proofs.Common.{inl, inr}
 use Rattle.faults.specs.declared.InputCause.TheVariants.{WrongLength, OutOfRange}
 use Rattle.faults.specs.declared.StateCause.TheVariants.{WrongPhase}
 use Rattle.faults.specs.declared.TheoryFault.{TheoryFault}
 use Rattle.faults.specs.declared.TheoryFault.TheVariants as theory
-use Rattle.calculus.specs.declared.Judgement.TheVariants.{Yes}
-use Rattle.calculus.specs.declared.Vouching.TheVariants.{Refused}
 use Rattle.calculus.specs.Kinds.{Kind}
 
 -- it knows no kind of body or hint
@@ -33,7 +31,7 @@ switches_only = record {
   atoms = λ m. 0;
   mentioned = λ m a j. false;
   truth = λ m a xs d. false;
-  admitted = λ m xs d. Yes;
+  admitted = λ m xs d. Ok tt;
   equated = λ m a i j. false;
-  vouched = λ m s ls hint. Refused (unknown hint);
+  vouched = λ m s ls hint. Err (unknown hint);
 }

@@ -6,7 +6,8 @@ ghost use Rattle.switches.specs.Switches.{unknown, switches_only};
 ghost use Rattle.switches.specs.Lawfulness.{switches_lawful};
 ghost use Rattle.std.proofs.Common.{rules};
 
-use calculus::{Judgement, Theory, Vouching};
+use calculus::Theory;
+use calculus::limits::are_within_limits;
 use faults::{InputCause, StateCause, TheoryFault};
 
 #[derive(Clone, Copy)]
@@ -79,19 +80,18 @@ impl Theory for Switches {
         false
     }
 
-    fn admits(&self, numerators: &[i32], denominator: u32) -> Judgement {
-        if numerators.is_empty() && 1 <= denominator && denominator <= 1_000_000 {
-            Judgement::Yes
-        } else {
-            Judgement::No(1)
+    fn admits(&self, numerators: &[i32], denominator: u32) -> Result<(), TheoryFault> {
+        if !are_within_limits(0, numerators, denominator) {
+            return Err(TheoryFault::State(StateCause::NotAdmitted, 1));
         }
+        Ok(())
     }
 
     fn equates(&self, _atom: u8, _i: u8, _j: u8) -> bool {
         false
     }
 
-    fn vouches(&self, _switches: u8, _clause: &[i8], hint: &[u8]) -> Vouching {
-        Vouching::Refused(refuse(hint))
+    fn vouches(&self, _switches: u8, _clause: &[i8], hint: &[u8]) -> Result<(), TheoryFault> {
+        Err(refuse(hint))
     }
 }

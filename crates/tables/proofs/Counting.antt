@@ -1,25 +1,28 @@
--- A loop that counts the choices.
-use Rattle.std.proofs.Common.{◌≡◌, ℕ, ◌+◌, ◌<◌, ◌≤◌, true, false, cond, List, length, get_or, drop, ap, arith}
-use Rattle.std.proofs.lemmas.List.{at_drop_more, at_drop_all}
+-- How many choices the entries of a trail have.
+use Rattle.std.proofs.Common.{◌≡◌, ℕ, ◌+◌, ◌≤◌, Bool, true, false, cond, List, [], ◌∷◌, length, filter, refl, ap, ◌∙◌, arith}
+use Rattle.std.proofs.lemmas.List.{length-map}
+use Rattle.std.proofs.lemmas.List.Sums.{length-filter, count_by-le-length}
 use Rattle.calculus.specs.Trails.{choice, choices}
 use Rattle.tables.specs.declared.entry as code
+use Rattle.tables.specs.declared.trail.Trail.{Trail}
 use Rattle.tables.specs.Views.{entry_of, entries_of}
+use Rattle.tables.specs.Tables.{trail_of}
+use Rattle.tables.proofs.Tidying.{tidy_room}
 
-module _ (xs : List code.Entry.Entry) (i n : ℕ) where
-  -- n choices come before the place i
-  pub record Counted : Type 0 where
-    pub total : n + choices (entries_of (drop i xs)) ≡ choices (entries_of xs)
-    pub bound : n ≤ i
+abbrev pub is_choice : code.Entry.Entry → Bool
+is_choice e = choice (entry_of e).content
 
-module _ (xs : List code.Entry.Entry) (i n : ℕ) (d : code.Entry.Entry) (h : i < length xs) (k : Counted xs i n) where
-  here : choices (entries_of (drop i xs)) ≡ cond (choice (entry_of (get_or xs i d)).content) 1 0 + choices (entries_of (drop (i + 1) xs))
-  here = at_drop_more (λ es. choices (entries_of es)) xs i d h
+counted : (es : List code.Entry.Entry) → length (filter is_choice es) ≡ choices (entries_of es)
+counted [] = refl
+counted (e ∷ es) = go (is_choice e) (counted es)
+  where
+    go : (b : Bool) → length (filter is_choice es) ≡ choices (entries_of es) → length (cond b (e ∷ filter is_choice es) (filter is_choice es)) ≡ cond b 1 0 + choices (entries_of es)
+    go true h = omega (arith, h)
+    go false h = omega (arith, h)
 
-  pub count_yes : choice (entry_of (get_or xs i d)).content ≡ true → Counted xs (i + 1) (n + 1)
-  count_yes y = record { total = omega (arith, here, k.total, ap (λ b. cond {A = ℕ} b 1 0) y); bound = omega (arith, k.bound) }
+module _ (t : Trail) (es : List code.Entry.Entry) (n : ℕ) (e : entries_of es ≡ trail_of t) (h : n ≡ length (filter is_choice es)) where
+  pub choices_counted : n ≡ choices (trail_of t)
+  choices_counted = h ∙ counted es ∙ ap choices e
 
-  pub count_no : choice (entry_of (get_or xs i d)).content ≡ false → Counted xs (i + 1) n
-  count_no y = record { total = omega (arith, here, k.total, ap (λ b. cond {A = ℕ} b 1 0) y); bound = omega (arith, k.bound) }
-
-pub count_end : (xs : List code.Entry.Entry) (i n : ℕ) → length xs ≤ i → Counted xs i n → n ≡ choices (entries_of xs)
-count_end xs i n h k = omega (arith, k.total, at_drop_all (λ es. choices (entries_of es)) xs i h)
+  pub choices_few : n ≤ 143
+  choices_few = omega (arith, h, length-filter is_choice es, count_by-le-length is_choice es, length-map es entry_of, ap length e, tidy_room (trail_of t) t.tidied)

@@ -1,7 +1,7 @@
 pub mod Finding
+pub mod Counting
 pub mod Tidying
 pub mod Narrowing
-pub mod Counting
 pub mod Tables
 pub mod Keeping
 pub mod Weighing

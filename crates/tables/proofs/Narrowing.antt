@@ -1,12 +1,10 @@
 -- At most one entry passes an exclusive test: a narrower test finds that one or none.
-use Rattle.std.proofs.Common.{◌≡◌, ℕ, Bool, true, false, cond, ◌||◌, List, [], ◌∷◌, ℤ, pos, negsuc, neg_ℤ, nat_abs, Some, None, sym, refl, ap, ◌∙◌, subst, ⊎_elim, to_z-of_z, w8, SFits, to_z, of_z}
+use Rattle.std.proofs.Common.{◌≡◌, Bool, true, false, cond, ◌||◌, List, [], ◌∷◌, ℤ, pos, negsuc, nat_abs, sym, refl, ap, ◌∙◌, subst, ⊎_elim}
 use Rattle.std.specs.List.{AllByRecursion}
 use Rattle.std.proofs.lemmas.Bool.{true≢false, or_parts, or_cases, or_from, cases_Bool, cond-true, cond-false}
 use Rattle.calculus.specs.Literals.{number}
-use Rattle.calculus.specs.Trails.{Content, Entry, no_entry, affirms, concerns, entry_for, has_entry}
-use Rattle.calculus.proofs.Trailing.{clash, Apart, Exclusive, affirms_concerns, denies_concerns}
-use Rattle.tables.specs.declared.entry as code
-use Rattle.tables.specs.Views.{entry_of, Finds}
+use Rattle.calculus.specs.Trails.{Content, Entry, no_entry, entry_for, has_entry}
+use Rattle.calculus.proofs.Trailing.{clash, Apart, Exclusive}
 
 or_last : (a b : Bool) → b ≡ false → (a || b) ≡ a
 or_last true b h = refl
@@ -43,28 +41,6 @@ module _ (p q : Content → Bool) (narrower : (c : Content) → p c ≡ true →
         subst P (sym (cond-false (q e.content) e (entry_for q t) n)) (ap (λ b. b || has_entry p t) y ∙ r.0, cond-false (p e.content) e (entry_for p t) y ∙ r.1))
         (cases_Bool (q e.content))
 
-    module _ (t : List Entry) (a : Apart t) (e : code.Entry.Entry) (f : Finds q t (Some e)) where
-      pub narrow_yes : p (entry_of e).content ≡ true → Finds p t (Some e)
-      narrow_yes y =
-          let r = one_passes t a f.0 in
-          let z : p (entry_for q t).content ≡ true = ap (λ d. p d.content) f.1 ∙ y in
-          (r.0 ∙ z, r.1 ∙ cond-true _ (entry_for q t) no_entry z ∙ f.1)
-
-      pub narrow_no : p (entry_of e).content ≡ false → Finds p t None
-      narrow_no n =
-          let r = one_passes t a f.0 in
-          let z : p (entry_for q t).content ≡ false = ap (λ d. p d.content) f.1 ∙ n in
-          (r.0 ∙ z, r.1 ∙ cond-false _ (entry_for q t) no_entry z)
-
-  pub narrow_none : (t : List Entry) → Finds q t None → Finds p t None
-  narrow_none t f = none_passes t f.0
-
 pub abs_number : (l : ℤ) → nat_abs l ≡ number l
 abs_number (pos n) = refl
 abs_number (negsuc n) = refl
-
-pub affirms_by : (l : ℤ) (n : ℕ) → SFits w8 l → n ≡ nat_abs (to_z w8 (of_z w8 l)) → (c : Content) → affirms l c ≡ true → concerns n c ≡ true
-affirms_by l n f e c h = ap (λ m. concerns m c) (e ∙ ap nat_abs (to_z-of_z f) ∙ abs_number l) ∙ affirms_concerns l c h
-
-pub denies_by : (l : ℤ) (n : ℕ) → SFits w8 l → n ≡ nat_abs (to_z w8 (of_z w8 l)) → (c : Content) → affirms (neg_ℤ l) c ≡ true → concerns n c ≡ true
-denies_by l n f e c h = ap (λ m. concerns m c) (e ∙ ap nat_abs (to_z-of_z f) ∙ abs_number l) ∙ denies_concerns l c h

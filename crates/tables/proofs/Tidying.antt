@@ -2,6 +2,7 @@
 use Rattle.std.proofs.Common.{◌≡◌, ℕ, ◌<◌, ◌≤◌, Bool, true, false, ◌&&◌, eqb, List, [], ◌∷◌, ◌++◌, length, sym, refl, ◌∙◌, arith}
 use Rattle.std.specs.List.{AllByRecursion}
 use Rattle.std.proofs.lemmas.List.{length_push}
+use Rattle.std.proofs.lemmas.List.Folds.{list_any-append}
 use Rattle.std.proofs.ByRecursion.{All-weaker, All-push}
 use Rattle.std.proofs.lemmas.Bool.{and_parts, and_from, or_parts, or_from, not-true, not_from_false, eqb-false, ne_eqb}
 use Rattle.calculus.specs.Limits.{most_numbers, most_measures, most_numerator, within, sized}
@@ -76,6 +77,17 @@ tidy_push t e h r f = apart_tidy (t ++ e ∷ []) (apart_push t e (tidy_apart t h
 
 pub tidy_up_to : (k : ℕ) (t : List Entry) → tidy t ≡ true → tidy (up_to k t) ≡ true
 tidy_up_to k t h = apart_tidy (up_to k t) (apart_up_to k t (tidy_apart t h)) (up_to_weaken (λ e. ranged e.content ≡ true) k t (tidy_ranged t h))
+
+free_prefix : (c : Content) (t u : List Entry) → free c (t ++ u) ≡ true → free c t ≡ true
+free_prefix (Value j x) t u h = not_from_false _ (or_parts (has_entry (values j) t) (has_entry (values j) u) (sym (list_any-append (λ e. values j e.content) t u) ∙ not-true _ h)).0
+free_prefix (Literal l o) t u h = not_from_false _ (or_parts (has_entry (concerns (number l)) t) (has_entry (concerns (number l)) u) (sym (list_any-append (λ e. concerns (number l) e.content) t u) ∙ not-true _ h)).0
+
+pub tidy_prefix : (t u : List Entry) → tidy (t ++ u) ≡ true → tidy t ≡ true
+tidy_prefix [] u h = refl
+tidy_prefix (e ∷ t) u h =
+    let b = and_parts (ranged e.content && free e.content (t ++ u)) (tidy (t ++ u)) h in
+    let a = and_parts (ranged e.content) (free e.content (t ++ u)) b.0 in
+    and_from _ _ (and_from _ _ a.0 (free_prefix e.content t u a.1)) (tidy_prefix t u b.1)
 
 ranged_known : (c : Content) → ranged c ≡ true → Known most_numbers most_measures c
 ranged_known (Value j x) h = (and_parts (within most_measures j) (sized most_numerator x) h).0

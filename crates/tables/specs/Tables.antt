@@ -1,29 +1,25 @@
 -- What the tables stand for.
-use Rattle.std.specs.Prelude.{◌≡◌, true, false, List, map, length, take, ℤ, Option, MatchOption, nat_le}
+use Rattle.std.specs.Prelude.{◌≡◌, true, false, List, map, length, ℤ, Option, MatchOption, nat_le}
 use Rattle.calculus.specs.Limits.{most_literals}
 use Rattle.calculus.specs.Trails.{Entry}
 use Rattle.calculus.specs.States.{Stored}
 use Rattle.tables.specs.Views.{entries_of}
 use Rattle.tables.specs.declared.trail.Trail.{Trail}
 use Rattle.tables.specs.declared.clause.Clause.{Clause}
-use Rattle.tables.specs.declared.draft.Draft.{Draft}
 use Rattle.tables.specs.declared.store.Row.{Row}
 use Rattle.tables.specs.declared.store.Store.{Store}
 
 abbrev pub trail_of : Trail → List Entry
-trail_of t = entries_of (take t.len t.entries)
+trail_of t = entries_of t.entries.items
 
 abbrev pub literals_of : Clause → List ℤ
-literals_of c = take c.len c.literals
-
-abbrev pub draft_of : Draft → List ℤ
-draft_of d = take d.len d.literals
+literals_of c = c.literals.items
 
 abbrev pub stored_of : Row → Stored
 stored_of r = record { literals = literals_of r.clause; rule = r.rule }
 
 abbrev pub store_of : Store → List Stored
-store_of s = map stored_of (take s.len s.rows)
+store_of s = map stored_of s.rows.items
 
 -- the clause of these literals, unless they are too many
 abbrev pub Makes : List ℤ → Option Clause → Type 0

@@ -1,13 +1,62 @@
-ghost use Rattle.std.specs.Prelude.{◌≡◌, ◌≤◌, length};
+ghost use Rattle.std.specs.Prelude.{◌≡◌, ◌≤◌, true, false, [], length, MatchOption, nat_eq};
+ghost use Rattle.calculus.specs.Lists.{some};
+ghost use Rattle.calculus.specs.Literals.{number, holds_literal};
+ghost use Rattle.calculus.specs.Steps.{literal_on};
+ghost use Rattle.tables.specs.Tables.{literals_of, Makes};
 
-pub mod clausing;
-pub mod resolving;
+use crate::literals::{has_number, holds_literal, literal_on};
+use arrayvec::ArrayVec;
+
+mod resolving;
+
+pub const MOST_LITERALS: usize = 16;
 
 // A clause of at most 16 literals.
-#[derive(Clone, Copy)]
+#[derive(Default, Drop)]
 pub struct Clause {
-    literals: [i8; 16],
-    len: usize,
-    ghost whole: { length literals ≡ 16 },
-    ghost fits: { len ≤ 16 },
+    literals: ArrayVec<i8, MOST_LITERALS>,
+}
+
+impl Clause {
+    pub fn empty() -> Clause
+        ensures { literals_of result ≡ [] }
+    {
+        Clause {
+            literals: ArrayVec::new(),
+        }
+    }
+
+    // The clause of these literals, unless they are more than 16.
+    pub fn of(literals: &[i8]) -> Option<Clause>
+        ensures { Makes literals.now result }
+    {
+        let literals = ArrayVec::try_from(literals).ok()?;
+        Some(Clause { literals })
+    }
+
+    pub fn literals(&self) -> &[i8]
+        ensures same { result.now ≡ literals_of self.now }
+        ensures few { length result.now ≤ 16 }
+    {
+        self.literals.as_slice()
+    }
+
+    pub fn holds(&self, literal: i8) -> bool
+        ensures { result ≡ holds_literal literal (literals_of self.now) }
+    {
+        holds_literal(self.literals(), literal)
+    }
+
+    pub fn has_number(&self, n: u8) -> bool
+        ensures { result ≡ some (λ k. nat_eq (number k) n) (literals_of self.now) }
+    {
+        has_number(self.literals(), n)
+    }
+
+    // The literal on this number.
+    pub fn literal_on(&self, n: u8) -> Option<i8>
+        ensures { MatchOption result (some (λ k. nat_eq (number k) n) (literals_of self.now) ≡ false) (λ l. (some (λ k. nat_eq (number k) n) (literals_of self.now) ≡ true) × (l ≡ literal_on n (literals_of self.now))) }
+    {
+        literal_on(self.literals(), n)
+    }
 }

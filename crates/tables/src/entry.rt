@@ -1,4 +1,4 @@
-ghost use Rattle.std.specs.Prelude.{◌≡◌, neg_ℤ};
+ghost use Rattle.std.specs.Prelude.{◌≡◌, MatchOption, neg_ℤ};
 ghost use Rattle.calculus.specs.Trails.{choice, affirms, concerns, values, numerator, was_read, reason};
 ghost use Rattle.tables.specs.Views.{entry_of};
 
@@ -25,65 +25,63 @@ pub enum Entry {
     },
 }
 
+// What fills the places of a trail that are not used.
+impl Default for Entry {
+    fn default() -> Entry {
+        Entry::Value {
+            measure: 0,
+            numerator: 0,
+            level: 0,
+        }
+    }
+}
+
 impl Entry {
     pub fn level(self) -> u8
         ensures { result ≡ (entry_of self).level }
     {
         match self {
-            Entry::Value { level, .. } => level,
-            Entry::Literal { level, .. } => level,
+            Entry::Value { level, .. } | Entry::Literal { level, .. } => level,
         }
     }
 
     pub fn is_choice(self) -> bool
         ensures { result ≡ choice (entry_of self).content }
     {
-        match self {
-            Entry::Value { .. } => true,
-            Entry::Literal {
-                origin: Origin::Chosen,
-                ..
-            } => true,
-            Entry::Literal { .. } => false,
-        }
+        matches!(
+            self,
+            Entry::Value { .. }
+                | Entry::Literal {
+                    origin: Origin::Chosen,
+                    ..
+                }
+        )
     }
 
     // It is a literal on this number.
     pub fn concerns(self, number: u8) -> bool
         ensures { result ≡ concerns number (entry_of self).content }
     {
-        match self {
-            Entry::Value { .. } => false,
-            Entry::Literal { literal, .. } => literal.unsigned_abs() == number,
-        }
+        matches!(self, Entry::Literal { literal, .. } if literal.unsigned_abs() == number)
     }
 
     // It is a value for this measure.
     pub fn values(self, wanted: u8) -> bool
         ensures { result ≡ values wanted (entry_of self).content }
     {
-        match self {
-            Entry::Value { measure, .. } => measure == wanted,
-            Entry::Literal { .. } => false,
-        }
+        matches!(self, Entry::Value { measure, .. } if measure == wanted)
     }
 
     pub fn affirms(self, wanted: i8) -> bool
         ensures { result ≡ affirms wanted (entry_of self).content }
     {
-        match self {
-            Entry::Value { .. } => false,
-            Entry::Literal { literal, .. } => literal == wanted,
-        }
+        matches!(self, Entry::Literal { literal, .. } if literal == wanted)
     }
 
     pub fn denies(self, wanted: i8) -> bool
         ensures { result ≡ affirms (neg_ℤ wanted) (entry_of self).content }
     {
-        match self {
-            Entry::Value { .. } => false,
-            Entry::Literal { literal, .. } => i16::from(literal) == -i16::from(wanted),
-        }
+        matches!(self, Entry::Literal { literal, .. } if i16::from(literal) == -i16::from(wanted))
     }
 
     // Its numerator, or 0.
@@ -99,25 +97,25 @@ impl Entry {
     pub fn was_read(self) -> bool
         ensures { result ≡ was_read (entry_of self).content }
     {
-        match self {
+        matches!(
+            self,
             Entry::Literal {
                 origin: Origin::Read,
                 ..
-            } => true,
-            _ => false,
-        }
+            }
+        )
     }
 
-    // The number of the clause that propagated it, or 0.
-    pub fn reason(self) -> u8
-        ensures { result ≡ reason (entry_of self).content }
+    // The number of the clause that propagated it.
+    pub fn reason(self) -> Option<u8>
+        ensures { MatchOption result (reason (entry_of self).content ≡ 0) (λ c. c ≡ reason (entry_of self).content) }
     {
         match self {
             Entry::Literal {
                 origin: Origin::Propagated(clause),
                 ..
-            } => clause,
-            _ => 0,
+            } => Some(clause),
+            _ => None,
         }
     }
 }

@@ -2,7 +2,6 @@
 #![tactic(auto)]
 
 pub mod clause;
-pub mod draft;
 pub mod entry;
 pub mod literals;
 pub mod store;

@@ -1,9 +1,12 @@
 // Tests on literals and on lists of them.
-ghost use Rattle.std.specs.Prelude.{◌≡◌, ◌==◌, nat_eq};
+ghost use Rattle.std.specs.Prelude.{◌≡◌, true, false, MatchOption, ◌==◌, nat_eq};
 ghost use Rattle.calculus.specs.Lists.{every, some};
 ghost use Rattle.calculus.specs.Limits.{within};
 ghost use Rattle.calculus.specs.Literals.{same, number, proper, distinct, clause_like, holds_literal};
 ghost use Rattle.calculus.specs.Steps.{literal_on};
+
+use crate::clause::MOST_LITERALS;
+use calculus::limits;
 
 pub fn is_same(a: i8, b: i8) -> bool
     ensures { result ≡ same a b }
@@ -28,81 +31,53 @@ pub fn is_on(literal: i8, n: u8) -> bool
 pub fn is_within(literal: i8, most: usize) -> bool
     ensures { result ≡ within most (number literal) }
 {
-    let n = literal.unsigned_abs();
-    0 < n && n as usize <= most
+    limits::is_within(most, usize::from(literal.unsigned_abs()))
 }
 
 pub fn are_proper(literals: &[i8]) -> bool
     ensures { result ≡ every proper literals.now }
 {
-    for k in literals {
-        if !is_proper(*k) {
-            return false;
-        }
-    }
-    true
+    literals.iter().all(|k| is_proper(*k))
 }
 
 pub fn are_within(literals: &[i8], most: usize) -> bool
     ensures { result ≡ every (λ l. within most (number l)) literals.now }
 {
-    for k in literals {
-        if !is_within(*k, most) {
-            return false;
-        }
-    }
-    true
+    literals.iter().all(|k| is_within(*k, most))
 }
 
 pub fn holds_literal(literals: &[i8], literal: i8) -> bool
     ensures { result ≡ holds_literal literal literals.now }
 {
-    for k in literals {
-        if is_same(*k, literal) {
-            return true;
-        }
-    }
-    false
+    literals.iter().any(|k| is_same(*k, literal))
 }
 
 pub fn has_number(literals: &[i8], n: u8) -> bool
     ensures { result ≡ some (λ k. nat_eq (number k) n) literals.now }
 {
-    for k in literals {
-        if is_on(*k, n) {
-            return true;
-        }
-    }
-    false
+    literals.iter().any(|k| is_on(*k, n))
 }
 
-// The literal on this number, or 0.
-pub fn literal_on(literals: &[i8], n: u8) -> i8
-    ensures { result ≡ literal_on n literals.now }
+// The first literal on this number.
+pub fn literal_on(literals: &[i8], n: u8) -> Option<i8>
+    ensures { MatchOption result (some (λ k. nat_eq (number k) n) literals.now ≡ false) (λ l. (some (λ k. nat_eq (number k) n) literals.now ≡ true) × (l ≡ literal_on n literals.now)) }
 {
-    for k in literals {
-        if is_on(*k, n) {
-            return *k;
-        }
-    }
-    0
+    literals.iter().find(|k| is_on(**k, n)).copied()
 }
 
 // No two of the literals are on one number.
 fn are_distinct(literals: &[i8]) -> bool
     ensures { result ≡ distinct literals.now }
 {
-    for i in 0..literals.len() {
-        if has_number(&literals[i + 1..], literals[i].unsigned_abs()) {
-            return false;
-        }
+    match literals {
+        [] => true,
+        [first, rest @ ..] => !has_number(rest, first.unsigned_abs()) && are_distinct(rest),
     }
-    true
 }
 
 // At most 16 literals, on different numbers.
 pub fn is_clause_like(literals: &[i8]) -> bool
     ensures { result ≡ clause_like literals.now }
 {
-    literals.len() <= 16 && are_distinct(literals)
+    literals.len() <= MOST_LITERALS && are_distinct(literals)
 }

@@ -1,20 +1,22 @@
-ghost use Rattle.std.specs.Prelude.{◌≡◌, ◌≤◌, true, length, take};
+ghost use Rattle.std.specs.Prelude.{◌≡◌, true};
 ghost use Rattle.tables.specs.Views.{entries_of};
 ghost use Rattle.tables.specs.Keys.{tidy};
 
 use crate::entry::Entry;
+use arrayvec::ArrayVec;
 
 pub mod asking;
-pub mod entering;
-pub mod looking;
-pub mod weighing;
+mod entering;
+mod weighing;
 
-// The trail, in the order of entry. There are 127 numbers and 16 measures, and none stands twice, so it has room for all.
-#[derive(Clone, Copy)]
+// There are 127 numbers and 16 measures, and none stands twice on a trail, so it has room for all.
+pub const MOST_ENTRIES: usize = 143;
+
+pub const MOST_MEASURES: usize = 16;
+
+// The trail, in the order of entry.
+#[derive(Drop)]
 pub struct Trail {
-    entries: [Entry; 143],
-    len: usize,
-    ghost whole: { length entries ≡ 143 },
-    ghost fits: { len ≤ 143 },
-    ghost tidied: { tidy (entries_of (take len entries)) ≡ true },
+    entries: ArrayVec<Entry, MOST_ENTRIES>,
+    ghost tidied: { tidy (entries_of entries.items) ≡ true },
 }

@@ -1,27 +1,23 @@
 -- The theory of signs keeps the laws.
-use Rattle.std.proofs.Common.{◌≡◌, ℕ, zero, suc, ◌+◌, ◌-◌, ◌*◌, ◌<◌, ◌≤◌, Bool, true, false, cond, ◌&&◌, ◌||◌, eqb, ltb, leb, ◌⊎◌, List, [], ◌∷◌, length, get_or, ℤ, pos, negsuc, ◌*ℤ◌, neg_ℤ, sym, refl, ap, ◌∙◌, subst, inl, inr, ⊎_elim, mul-pos, arith, length-append}
+use Rattle.std.proofs.Common.{◌≡◌, ℕ, zero, suc, ◌+◌, ◌-◌, ◌*◌, ◌<◌, ◌≤◌, Bool, true, false, cond, ◌&&◌, ◌||◌, eqb, ltb, leb, List, [], ◌∷◌, length, get_or, ℤ, pos, negsuc, Ok, Err, ◌*ℤ◌, neg_ℤ, sym, refl, ap, ◌∙◌, subst, inl, inr, ⊎_elim, mul-pos, arith, length-append}
 use lib.ListN.{get_or-append, get_or-eq_default}
 use lib.IntN.{pos-*ℤ-pos, negsuc-*ℤ-pos, zero-*ℤ}
 use Rattle.std.proofs.lemmas.Bool.{true≢false, and_parts, or_cases, or_left, or_right, le-leb, lt-leb, ltb-true, eqb-true, eq-eqb, ne_eqb, cases_lt, cond-true, cond-false, not-true}
-use Rattle.faults.specs.declared.InputCause.TheVariants.{WrongLength, OutOfRange}
-use Rattle.faults.specs.declared.StateCause.TheVariants.{WrongPhase}
+use Rattle.faults.specs.declared.InputCause.TheVariants.{OutOfRange}
+use Rattle.faults.specs.declared.StateCause.TheVariants.{WrongPhase, NotAdmitted}
 use Rattle.faults.specs.declared.TheoryFault.{TheoryFault}
 use Rattle.faults.specs.declared.TheoryFault.TheVariants as theory
 use Rattle.faults.specs.Causes.{theory_code}
-use Rattle.calculus.specs.declared.Judgement.TheVariants.{Yes, No}
-use Rattle.calculus.specs.declared.Vouching.{Vouching}
-use Rattle.calculus.specs.declared.Vouching.TheVariants.{Vouched, Unvouched, Refused}
 use Rattle.calculus.specs.Lists.{every, some, nth}
 use Rattle.calculus.specs.Limits.{most_measures, within}
 use Rattle.calculus.specs.Literals.{number}
 use Rattle.calculus.specs.Arrangements.{SameFraction}
-use Rattle.calculus.specs.Kinds.{Lawful, OnlyCounted, OneMore, Narrower, InPile, some_atom}
+use Rattle.calculus.specs.Kinds.{Lawful, OnlyCounted, OneMore, Narrower, InPile, not_vouched, some_atom}
 use Rattle.calculus.proofs.Tabling.{nth_absent}
+use Rattle.calculus.proofs.Testing.{every_same}
+use Rattle.calculus.proofs.Refusing.{refused_not_taken, taken_not_refused, no_not_yes, yes_not_no, admitted_so, first_in_pile, refused_in_pile, no_in_pile}
 use Rattle.trials.specs.Signs as spec
 use Rattle.trials.specs.Signs.{Signs, Sign, sign, no_atom, atom, with_count, with_atom, with_signed, too_many, not_zero, judged, alike, affirms_sign, both_signs, signs}
-
-never : {A B : Type 0} (f : TheoryFault) (n : A) → inl f ≡ inr n → B
-never f n e = let z : ◌≡◌ {A = ℕ} 0 1 = cc in absurd (omega arith)
 
 -- equal fractions have one sign
 positive_product : (m e : ℕ) → 0 < e → 0 < suc m * e
@@ -51,17 +47,10 @@ sign_local b (suc j) t xs ys d e lx ly p q h =
     ⊎_elim (λ l. same_sign b (get_or xs j (pos 0)) (get_or ys j (pos 0)) d e p q (h (omega arith) (omega arith)))
     (λ l. let ax : length xs ≤ j = omega arith in let ay : length ys ≤ j = omega arith in ap (sign b) (get_or-eq_default xs (pos 0) ax ∙ sym (get_or-eq_default ys (pos 0) ay))) (cases_lt j t)
 
-every_same : (p q : ℕ → Bool) → ((j : ℕ) → p j ≡ q j) → (js : List ℕ) → every p js ≡ every q js
-every_same p q h [] = refl
-every_same p q h (j ∷ js) = ap (λ b. b && every p js) (h j) ∙ ap (λ b. q j && b) (every_same p q h js)
-
 -- a refusal in layer 1
-top : {M : Type 0} (f g : TheoryFault) → (theory_code f).layer ≡ 1 → ◌≡◌ {A = TheoryFault ⊎ M} (inl f) (inl g) → InPile (theory_code g).layer
-top f g e q = let same : f ≡ g = cc in let z : (theory_code g).layer ≡ 1 = ap (λ h. (theory_code h).layer) (sym same) ∙ e in (omega arith, omega arith)
-
 many_top : (b : Bool) (n : Signs) (f : TheoryFault) → too_many b n ≡ inl f → InPile (theory_code f).layer
-many_top true n f e = let z : ◌≡◌ {A = ℕ} 0 1 = cc in absurd (omega arith)
-many_top false n f e = top {M = Signs} (theory.Input OutOfRange 1) f refl e
+many_top true n f e = taken_not_refused e
+many_top false n f e = refused_in_pile first_in_pile e
 
 -- counting
 again : (b : Bool) (m : Signs) (t : ℕ) → b ≡ true → (layer : ℕ) × (spec.counting b m t ≡ inl (theory.State WrongPhase layer))
@@ -81,13 +70,13 @@ few false m t e p = (
 )
 
 count_layer : (b : Bool) (m : Signs) (t : ℕ) (f : TheoryFault) → spec.counting b m t ≡ inl f → InPile (theory_code f).layer
-count_layer true m t f e = top {M = Signs} (theory.State WrongPhase 1) f refl e
+count_layer true m t f e = refused_in_pile first_in_pile e
 count_layer false m t f e = many_top (leb t most_measures) (with_count m t) f e
 
 -- what was taken is what the test let through
 taken_so : (P : Signs → Type 0) (b : Bool) (m n : Signs) → P m → too_many b m ≡ inr n → P n
 taken_so P true m n h e = let same : m ≡ n = cc in subst P same h
-taken_so P false m n h e = never (theory.Input OutOfRange 1) n e
+taken_so P false m n h e = refused_not_taken e
 
 one_more : (m : Signs) (r : Sign) → OneMore signs m (with_atom m r)
 one_more m r = record {
@@ -104,24 +93,20 @@ one_more m r = record {
     old (suc a) p l = get_or-append m.atoms (r ∷ []) (record { measure = 0; negative = true }) a (omega arith)
 
 admitted_one : (m : Signs) (body : List ℕ) (n : Signs) → spec.admitting m body ≡ inr n → OneMore signs m n
-admitted_one m [] n e = never (theory.Input WrongLength 1) n e
-admitted_one m (j ∷ []) n e = never (theory.Input WrongLength 1) n e
+admitted_one m [] n e = refused_not_taken e
+admitted_one m (j ∷ []) n e = refused_not_taken e
 admitted_one m (j ∷ k ∷ []) n e = taken_so (OneMore signs m) (within m.measures j && ltb k 2) (with_atom m (record { measure = j; negative = eqb k 0 })) n (one_more m (record { measure = j; negative = eqb k 0 })) e
-admitted_one m (j ∷ k ∷ i ∷ is) n e = never (theory.Input WrongLength 1) n e
+admitted_one m (j ∷ k ∷ i ∷ is) n e = refused_not_taken e
 
 admit_layer : (m : Signs) (body : List ℕ) (f : TheoryFault) → spec.admitting m body ≡ inl f → InPile (theory_code f).layer
-admit_layer m [] f e = top {M = Signs} (theory.Input WrongLength 1) f refl e
-admit_layer m (j ∷ []) f e = top {M = Signs} (theory.Input WrongLength 1) f refl e
+admit_layer m [] f e = refused_in_pile first_in_pile e
+admit_layer m (j ∷ []) f e = refused_in_pile first_in_pile e
 admit_layer m (j ∷ k ∷ []) f e = many_top (within m.measures j && ltb k 2) (with_atom m (record { measure = j; negative = eqb k 0 })) f e
-admit_layer m (j ∷ k ∷ i ∷ is) f e = top {M = Signs} (theory.Input WrongLength 1) f refl e
+admit_layer m (j ∷ k ∷ i ∷ is) f e = refused_in_pile first_in_pile e
 
-judged_yes : (b : Bool) → judged b ≡ Yes → b ≡ true
-judged_yes true e = refl
-judged_yes false e = let z : ◌≡◌ {A = ℕ} 0 1 = cc in absurd (omega arith)
-
-judged_layer : (b : Bool) (layer : ℕ) → judged b ≡ No layer → InPile layer
-judged_layer true layer e = let z : ◌≡◌ {A = ℕ} 0 1 = cc in absurd (omega arith)
-judged_layer false layer e = let z : 1 ≡ layer = cc in (omega arith, omega arith)
+judged_layer : (b : Bool) (f : TheoryFault) → judged b ≡ Err f → (layer : ℕ) × (f ≡ theory.State NotAdmitted layer) × InPile layer
+judged_layer true f e = yes_not_no e
+judged_layer false f e = let same : theory.State NotAdmitted 1 ≡ f = cc in (1, sym same, first_in_pile)
 
 narrower : (m : Signs) (j : ℕ) → Narrower signs m (with_signed m j)
 narrower m j = record {
@@ -130,51 +115,39 @@ narrower m j = record {
   atoms = refl;
   mentioned = refl;
   truth = refl;
-  admitted = λ xs d w e. ap judged (and_parts (not_zero xs j) (every (not_zero xs) m.signed) (judged_yes (not_zero xs j && every (not_zero xs) m.signed) e)).1;
+  admitted = λ xs d w e. ap judged (and_parts (not_zero xs j) (every (not_zero xs) m.signed) (admitted_so (not_zero xs j && every (not_zero xs) m.signed) e)).1;
 }
 
 declared_narrower : (m : Signs) (body : List ℕ) (n : Signs) → spec.declaring m body ≡ inr n → Narrower signs m n
-declared_narrower m [] n e = never (theory.Input WrongLength 1) n e
+declared_narrower m [] n e = refused_not_taken e
 declared_narrower m (j ∷ []) n e = taken_so (Narrower signs m) (within m.measures j) (with_signed m j) n (narrower m j) e
-declared_narrower m (j ∷ k ∷ ks) n e = never (theory.Input WrongLength 1) n e
+declared_narrower m (j ∷ k ∷ ks) n e = refused_not_taken e
 
 declare_layer : (m : Signs) (body : List ℕ) (f : TheoryFault) → spec.declaring m body ≡ inl f → InPile (theory_code f).layer
-declare_layer m [] f e = top {M = Signs} (theory.Input WrongLength 1) f refl e
+declare_layer m [] f e = refused_in_pile first_in_pile e
 declare_layer m (j ∷ []) f e = many_top (within m.measures j) (with_signed m j) f e
-declare_layer m (j ∷ k ∷ ks) f e = top {M = Signs} (theory.Input WrongLength 1) f refl e
+declare_layer m (j ∷ k ∷ ks) f e = refused_in_pile first_in_pile e
 
 -- vouching
-vouched_so : (m : Signs) (s : ℕ) (ls : List ℤ) (hint : List ℕ) → spec.vouching m s ls hint ≡ Vouched → (j : ℕ) × (both_signs m s ls j ≡ true)
-vouched_so m s ls [] e = let z : ◌≡◌ {A = ℕ} 0 1 = cc in absurd (omega arith)
-vouched_so m s ls (j ∷ k ∷ ks) e = let z : ◌≡◌ {A = ℕ} 0 1 = cc in absurd (omega arith)
+vouched_so : (m : Signs) (s : ℕ) (ls : List ℤ) (hint : List ℕ) → spec.vouching m s ls hint ≡ Ok tt → (j : ℕ) × (both_signs m s ls j ≡ true)
+vouched_so m s ls [] e = no_not_yes e
+vouched_so m s ls (j ∷ k ∷ ks) e = no_not_yes e
 vouched_so m s ls (j ∷ []) e = (j, go (within m.measures j) (both_signs m s ls j) e)
   where
-    go : (a b : Bool) → cond a (cond b Vouched (Unvouched 1)) (Refused (theory.Input OutOfRange 1)) ≡ Vouched → b ≡ true
+    go : (a b : Bool) → cond a (cond b (Ok tt) (not_vouched 1)) (Err (theory.Input OutOfRange 1)) ≡ Ok tt → b ≡ true
     go true true q = refl
-    go true false q = let z : ◌≡◌ {A = ℕ} 0 1 = cc in absurd (omega arith)
-    go false b q = let z : ◌≡◌ {A = ℕ} 0 1 = cc in absurd (omega arith)
+    go true false q = no_not_yes q
+    go false b q = no_not_yes q
 
-vouching_layers : (m : Signs) (s : ℕ) (ls : List ℤ) (hint : List ℕ) → ((layer : ℕ) → spec.vouching m s ls hint ≡ Unvouched layer → InPile layer) × ((f : TheoryFault) → spec.vouching m s ls hint ≡ Refused f → InPile (theory_code f).layer)
-vouching_layers m s ls hint = go_hint hint
+vouching_layer : (m : Signs) (s : ℕ) (ls : List ℤ) (hint : List ℕ) (f : TheoryFault) → spec.vouching m s ls hint ≡ Err f → InPile (theory_code f).layer
+vouching_layer m s ls [] f e = no_in_pile first_in_pile e
+vouching_layer m s ls (j ∷ k ∷ ks) f e = no_in_pile first_in_pile e
+vouching_layer m s ls (j ∷ []) f e = go (within m.measures j) (both_signs m s ls j) e
   where
-    refused : (c f : TheoryFault) → (theory_code c).layer ≡ 1 → Refused c ≡ Refused f → InPile (theory_code f).layer
-    refused c f e q = let same : c ≡ f = cc in let z : (theory_code f).layer ≡ 1 = ap (λ h. (theory_code h).layer) (sym same) ∙ e in (omega arith, omega arith)
-
-    Layered : Vouching → Type 0
-    Layered v = ((layer : ℕ) → v ≡ Unvouched layer → InPile layer) × ((f : TheoryFault) → v ≡ Refused f → InPile (theory_code f).layer)
-
-    of_refused : (c : TheoryFault) → (theory_code c).layer ≡ 1 → Layered (Refused c)
-    of_refused c e = (λ layer q. let z : ◌≡◌ {A = ℕ} 0 1 = cc in absurd (omega arith), λ f q. refused c f e q)
-
-    go : (a b : Bool) → Layered (cond a (cond b Vouched (Unvouched 1)) (Refused (theory.Input OutOfRange 1)))
-    go true true = (λ layer q. let z : ◌≡◌ {A = ℕ} 0 1 = cc in absurd (omega arith), λ f q. let z : ◌≡◌ {A = ℕ} 0 1 = cc in absurd (omega arith))
-    go true false = (λ layer q. let z : 1 ≡ layer = cc in (omega arith, omega arith), λ f q. let z : ◌≡◌ {A = ℕ} 0 1 = cc in absurd (omega arith))
-    go false b = of_refused (theory.Input OutOfRange 1) refl
-
-    go_hint : (h : List ℕ) → Layered (spec.vouching m s ls h)
-    go_hint [] = of_refused (theory.Input WrongLength 1) refl
-    go_hint (j ∷ []) = go (within m.measures j) (both_signs m s ls j)
-    go_hint (j ∷ k ∷ ks) = of_refused (theory.Input WrongLength 1) refl
+    go : (a b : Bool) → cond a (cond b (Ok tt) (not_vouched 1)) (Err (theory.Input OutOfRange 1)) ≡ Err f → InPile (theory_code f).layer
+    go true true q = yes_not_no q
+    go true false q = no_in_pile first_in_pile q
+    go false b q = no_in_pile first_in_pile q
 
 alike_same : (a b : Bool) → alike a b ≡ true → a ≡ b
 alike_same true b e = sym e
@@ -202,13 +175,13 @@ declared_not_zero xs j (i ∷ js) s e =
     let p = and_parts (not_zero xs i) (every (not_zero xs) js) e in
     ⊎_elim (λ y. ap (not_zero xs) (eqb-true j i y) ∙ p.0) (λ y. declared_not_zero xs j js y p.1) (or_cases (eqb j i) (some (eqb j) js) s)
 
-vouched_true : (m : Signs) (s : ℕ) (ls : List ℤ) (j : ℕ) → both_signs m s ls j ≡ true → (xs : List ℤ) (d : ℕ) → judged (every (not_zero xs) m.signed) ≡ Yes → some_atom signs m s xs d ls ≡ true
+vouched_true : (m : Signs) (s : ℕ) (ls : List ℤ) (j : ℕ) → both_signs m s ls j ≡ true → (xs : List ℤ) (d : ℕ) → judged (every (not_zero xs) m.signed) ≡ Ok tt → some_atom signs m s xs d ls ≡ true
 vouched_true m s ls j e xs d y =
     let p = and_parts (every (λ l. within (s + length m.atoms) (number l)) ls) (some (eqb j) m.signed && (some (affirms_sign m s j true) ls && some (affirms_sign m s j false) ls)) e in
     let q = and_parts (some (eqb j) m.signed) (some (affirms_sign m s j true) ls && some (affirms_sign m s j false) ls) p.1 in
     let r = and_parts (some (affirms_sign m s j true) ls) (some (affirms_sign m s j false) ls) q.1 in
     ⊎_elim (λ z. affirmed_true m s j true xs d ls z r.0) (λ z. affirmed_true m s j false xs d ls z r.1)
-    (or_cases (sign true (nth (pos 0) xs j)) (sign false (nth (pos 0) xs j)) (declared_not_zero xs j m.signed q.0 (judged_yes (every (not_zero xs) m.signed) y)))
+    (or_cases (sign true (nth (pos 0) xs j)) (sign false (nth (pos 0) xs j)) (declared_not_zero xs j m.signed q.0 (admitted_so (every (not_zero xs) m.signed) y)))
 
 pub signs_lawful : Lawful signs
 signs_lawful = record {
@@ -228,8 +201,7 @@ signs_lawful = record {
   declare_layer = declare_layer;
   admit_layer = admit_layer;
   admitted_layer = λ m xs d. judged_layer (every (not_zero xs) m.signed);
-  unvouched_layer = λ m s ls hint. (vouching_layers m s ls hint).0;
-  hint_layer = λ m s ls hint. (vouching_layers m s ls hint).1;
+  vouched_layer = vouching_layer;
   local = λ m a xs ys d e p q h. sign_local (atom m a).negative (atom m a).measure m.measures xs ys d e p.0 q.0 p.1 q.1 (λ x y. h (atom m a).measure x y (eq-eqb (atom m a).measure (atom m a).measure refl));
   fair = λ m xs ys d e p q h y.
       ap judged (every_same (not_zero ys) (not_zero xs)

@@ -1,19 +1,15 @@
 -- A small theory with atoms, to try the calculus on: an atom says that a measure is negative, or that it is
 -- positive; a declaration says that a measure is not 0, and then one of the two is true.
-use Rattle.std.specs.Prelude.{ℕ, zero, suc, ◌+◌, ◌-◌, Bool, true, false, cond, not, ◌&&◌, ◌||◌, ◌⊎◌, List, [], ◌∷◌, ◌++◌, length, ℤ, pos, negsuc, ◌==◌, nat_eq, nat_le, nat_lt}
+use Rattle.std.specs.Prelude.{ℕ, zero, suc, ◌+◌, ◌-◌, Bool, true, false, cond, not, ◌&&◌, ◌||◌, ◌⊎◌, List, [], ◌∷◌, ◌++◌, length, ℤ, pos, negsuc, Ok, Err, ◌==◌, nat_eq, nat_le, nat_lt}
 use Rattle.std.proofs.Common.{inl, inr}
 use Rattle.faults.specs.declared.InputCause.TheVariants.{WrongLength, OutOfRange}
 use Rattle.faults.specs.declared.StateCause.TheVariants.{WrongPhase}
 use Rattle.faults.specs.declared.TheoryFault.{TheoryFault}
 use Rattle.faults.specs.declared.TheoryFault.TheVariants as theory
-use Rattle.calculus.specs.declared.Judgement.{Judgement}
-use Rattle.calculus.specs.declared.Judgement.TheVariants.{Yes, No}
-use Rattle.calculus.specs.declared.Vouching.{Vouching}
-use Rattle.calculus.specs.declared.Vouching.TheVariants.{Vouched, Unvouched, Refused}
 use Rattle.calculus.specs.Lists.{every, some, nth}
 use Rattle.calculus.specs.Limits.{most_measures, within}
 use Rattle.calculus.specs.Literals.{number}
-use Rattle.calculus.specs.Kinds.{Kind}
+use Rattle.calculus.specs.Kinds.{Kind, Answer, not_admitted, not_vouched}
 
 -- of a number: it is negative where the flag is set, else it is positive
 abbrev pub sign : Bool → ℤ → Bool
@@ -73,9 +69,8 @@ admitting m (j ∷ k ∷ i ∷ is) = inl (theory.Input WrongLength 1)
 abbrev pub not_zero : List ℤ → ℕ → Bool
 not_zero xs j = sign true (nth (pos 0) xs j) || sign false (nth (pos 0) xs j)
 
-abbrev pub judged : Bool → Judgement
-judged true = Yes
-judged false = No 1
+abbrev pub judged : Bool → Answer
+judged b = cond b (Ok tt) (not_admitted 1)
 
 abbrev pub alike : Bool → Bool → Bool
 alike true b = b
@@ -92,10 +87,10 @@ both_signs m s ls j =
     every (λ l. within (s + length m.atoms) (number l)) ls
     && (some (nat_eq j) m.signed && (some (affirms_sign m s j true) ls && some (affirms_sign m s j false) ls))
 
-abbrev pub vouching : Signs → ℕ → List ℤ → List ℕ → Vouching
-vouching m s ls [] = Refused (theory.Input WrongLength 1)
-vouching m s ls (j ∷ []) = cond (within m.measures j) (cond (both_signs m s ls j) Vouched (Unvouched 1)) (Refused (theory.Input OutOfRange 1))
-vouching m s ls (j ∷ k ∷ ks) = Refused (theory.Input WrongLength 1)
+abbrev pub vouching : Signs → ℕ → List ℤ → List ℕ → Answer
+vouching m s ls [] = Err (theory.Input WrongLength 1)
+vouching m s ls (j ∷ []) = cond (within m.measures j) (cond (both_signs m s ls j) (Ok tt) (not_vouched 1)) (Err (theory.Input OutOfRange 1))
+vouching m s ls (j ∷ k ∷ ks) = Err (theory.Input WrongLength 1)
 
 abbrev pub signs : Kind
 signs = record {

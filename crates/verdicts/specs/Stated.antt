@@ -1,8 +1,7 @@
 -- What a case states, read off its records: how many switches there are, what the theory is, and the rules.
-use Rattle.std.specs.Prelude.{◌≡◌, ℕ, ◌<◌, true, cond, List, [], ◌∷◌, length, ℤ, ◌==◌, slice_index}
+use Rattle.std.specs.Prelude.{◌≡◌, ℕ, ◌<◌, true, cond, List, [], ◌∷◌, length, ℤ, Ok, ◌==◌, slice_index}
 use Rattle.std.specs.List.{AllByRecursion}
 use Rattle.numerals.specs.Numbers.{signed_bytes}
-use Rattle.calculus.specs.declared.Judgement.TheVariants.{Yes}
 use Rattle.calculus.specs.Arrangements.{Arrangement}
 use Rattle.calculus.specs.Kinds.{Kind}
 use Rattle.calculus.specs.Questions.{left}
@@ -53,5 +52,5 @@ pub record Solves (K : Kind) (case : List ℕ) (a : Arrangement) : Type 0 where
   pub switches : length a.switches ≡ case_switches K case
   pub measures : length a.numerators ≡ K.measures (case_theory K case)
   pub positive : 0 < a.denominator
-  pub admitted : K.admitted (case_theory K case) a.numerators a.denominator ≡ Yes
+  pub admitted : K.admitted (case_theory K case) a.numerators a.denominator ≡ Ok tt
   pub rules : AllByRecursion (λ ls. meets K (case_theory K case) (case_switches K case) a ls ≡ true) (case_rules K case)

@@ -7,8 +7,6 @@ ghost use Rattle.verdicts.specs.Honest.{Honest};
 use calculus::Theory;
 
 // Over every lawful theory, a check that tells impossible or possible tells the truth about the case.
-pub fn law<T: Theory>() -> u8
+pub fn law<T: Theory>()
     ensures { Honest T.Theory.kind }
-{
-    0
-}
+{}

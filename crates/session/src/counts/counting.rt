@@ -4,6 +4,7 @@ ghost use Rattle.calculus.specs.Limits.{most_numbers, most_denominator, within};
 ghost use Rattle.calculus.specs.Literals.{number as number_of};
 
 use super::Counts;
+use calculus::limits::is_within;
 use tables::literals::are_within;
 
 impl Counts {
@@ -28,7 +29,7 @@ impl Counts {
         ensures denominator { result.denominator ≡ self.denominator }
     {
         Counts {
-            switches: switches,
+            switches,
             numbers: switches,
             denominator: self.denominator,
         }
@@ -57,7 +58,7 @@ impl Counts {
         Counts {
             switches: self.switches,
             numbers: self.numbers,
-            denominator: denominator,
+            denominator,
         }
     }
 
@@ -86,13 +87,13 @@ impl Counts {
     pub fn has(self, number: u8) -> bool
         ensures { result ≡ within self.numbers number }
     {
-        0 < number && number <= self.numbers
+        is_within(usize::from(self.numbers), usize::from(number))
     }
 
     // The numbers of all these literals are in use.
     pub fn has_all(self, literals: &[i8]) -> bool
         ensures { result ≡ every (λ l. within self.numbers (number_of l)) literals.now }
     {
-        are_within(literals, self.numbers as usize)
+        are_within(literals, usize::from(self.numbers))
     }
 }

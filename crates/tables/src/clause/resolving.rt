@@ -1,11 +1,9 @@
-ghost use Rattle.std.specs.Prelude.{◌≡◌, ◌+◌, ◌≤◌, not, ◌&&◌, ◌++◌, length, neg_ℤ, filter};
+ghost use Rattle.std.specs.Prelude.{◌≡◌, ◌≤◌, Bool, not, ◌&&◌, ℤ, length, neg_ℤ, filter};
 ghost use Rattle.calculus.specs.Literals.{same, holds_literal};
 ghost use Rattle.calculus.specs.Steps.{others, resolvent};
-ghost use Rattle.tables.specs.Tables.{literals_of, draft_of, Makes};
+ghost use Rattle.tables.specs.Tables.{literals_of, Makes};
 
 use super::Clause;
-use crate::draft::Draft;
-use crate::literals::holds_literal;
 
 fn is_other(literal: i8, k: i8) -> bool
     ensures { result ≡ not (same k literal) }
@@ -13,48 +11,55 @@ fn is_other(literal: i8, k: i8) -> bool
     k != literal
 }
 
-// Not the denial of the literal, and not held yet.
-fn follows(literal: i8, held: &[i8], k: i8) -> bool
-    ensures { result ≡ (not (same k (neg_ℤ literal)) && not (holds_literal k held.now)) }
-{
-    i16::from(k) != -i16::from(literal) && !holds_literal(held, k)
-}
-
-// Adds the literals of the clause but this one.
-fn keep_others(draft: &mut Draft, literal: i8, clause: &[i8])
-    requires { length (draft_of draft.old) + length clause.now ≤ 32 }
-    ensures kept { draft_of draft.new ≡ draft_of draft.old ++ others literal clause.now }
-    ensures bound { length (draft_of draft.new) ≤ length (draft_of draft.old) + length clause.now }
-{
-    for k in clause {
-        if is_other(literal, *k) {
-            draft.push(*k);
-        }
-    }
-}
-
-// Adds the literals of the reason but the denial of this one, and but those that are held.
-fn keep_followers(draft: &mut Draft, literal: i8, held: &[i8], reason: &[i8])
-    requires { length (draft_of draft.old) + length reason.now ≤ 32 }
-    ensures { draft_of draft.new ≡ draft_of draft.old ++ filter (λ k. not (same k (neg_ℤ literal)) && not (holds_literal k held.now)) reason.now }
-{
-    for k in reason {
-        if follows(literal, held, *k) {
-            draft.push(*k);
-        }
-    }
-}
-
 impl Clause {
+    // Not the denial of the literal, and not held yet.
+    fn lacks(&self, literal: i8, k: i8) -> bool
+        ensures { result ≡ (not (same k (neg_ℤ literal)) && not (holds_literal k (literals_of self.now))) }
+    {
+        i16::from(k) != -i16::from(literal) && !self.holds(k)
+    }
+
+    // The clause of those literals that pass the test.
+    fn of_those<F: Fn(i8) -> bool>(literals: &[i8], test: F) -> Clause
+        requires few { length literals.now ≤ 16 }
+        requires callable { F.IsAlwaysCallable test }
+        ensures { (p : ℤ → Bool) → ((k : ℤ) (b : Bool) → F.post test k b → b ≡ p k) → literals_of result ≡ filter p literals.now }
+    {
+        let mut clause = Clause::empty();
+        for k in literals {
+            if test(*k) {
+                clause.literals.push(*k);
+            }
+        }
+        clause
+    }
+
+    // The clause without the literal.
+    fn without(&self, literal: i8) -> Clause
+        ensures { literals_of result ≡ others literal (literals_of self.now) }
+    {
+        Clause::of_those(self.literals(), |k| is_other(literal, k))
+    }
+
+    // The literals of the reason but the denial of the literal, and but those that this clause holds.
+    fn followers(&self, literal: i8, reason: &[i8]) -> Clause
+        requires { length reason.now ≤ 16 }
+        ensures { literals_of result ≡ filter (λ k. not (same k (neg_ℤ literal)) && not (holds_literal k (literals_of self.now))) reason.now }
+    {
+        Clause::of_those(reason, |k| self.lacks(literal, k))
+    }
+
     // The resolvent with a reason for the denial of the literal, unless it has more than 16 literals.
     pub fn resolved(&self, literal: i8, reason: &[i8]) -> Option<Clause>
         requires { length reason.now ≤ 16 }
         ensures { Makes (resolvent literal (literals_of self.now) reason.now) result }
     {
-        let mut held = Draft::new();
-        keep_others(&mut held, literal, self.literals());
-        let mut draft = held;
-        keep_followers(&mut draft, literal, held.literals(), reason);
-        Clause::of(draft.literals())
+        let mut resolvent = self.without(literal);
+        let followers = resolvent.followers(literal, reason);
+        resolvent
+            .literals
+            .try_extend_from_slice(followers.literals())
+            .ok()?;
+        Some(resolvent)
     }
 }

@@ -1,40 +1,66 @@
-ghost use Rattle.std.specs.Prelude.{◌≡◌, ◌≤◌, length, neg_ℤ};
-ghost use Rattle.calculus.specs.Trails.{entry_for, affirms, values, was_read, reason, on_trail, false_on, false_at, taken, valued, value, choices};
-ghost use Rattle.tables.specs.Views.{entries_of, Finds};
+ghost use Rattle.std.specs.Prelude.{◌≡◌, ◌<◌, ◌≤◌, MatchOption, Bool, neg_ℤ};
+ghost use Rattle.calculus.specs.Trails.{Content, entry_for, affirms, concerns, values, was_read, reason, on_trail, false_on, false_at, taken, valued, value, choices};
+ghost use Rattle.tables.specs.Views.{entry_of, entries_of, Finds};
 ghost use Rattle.tables.specs.Tables.{trail_of};
 
 use super::Trail;
 use crate::entry::Entry;
 
-fn count_choices(entries: &[Entry]) -> u8
-    requires { length entries.now ≤ 143 }
-    ensures count { result ≡ choices (entries_of entries.now) }
-    ensures bound { result ≤ 143 }
+// The first of the entries that passes the test.
+fn first<F: Fn(Entry) -> bool>(entries: &[Entry], test: F) -> Option<Entry>
+    requires { F.IsAlwaysCallable test }
+    ensures { (p : Content → Bool) → ((e : Entry) (b : Bool) → F.post test e b → b ≡ p (entry_of e).content) → Finds p (entries_of entries.now) result }
 {
-    let mut n = 0;
-    for e in entries {
-        if e.is_choice() {
-            n += 1;
-        }
-    }
-    n
+    entries.iter().find(|e| test(**e)).copied()
+}
+
+// The first of the entries that is a value for this measure.
+fn find_value(entries: &[Entry], measure: u8) -> Option<Entry>
+    ensures { Finds (values measure) (entries_of entries.now) result }
+{
+    first(entries, |e| e.values(measure))
+}
+
+// One of the entries is a value for this measure.
+pub fn is_valued(entries: &[Entry], measure: u8) -> bool
+    ensures { result ≡ valued measure (entries_of entries.now) }
+{
+    find_value(entries, measure).is_some()
 }
 
 impl Trail {
+    pub fn entries(&self) -> &[Entry]
+        ensures { entries_of result.now ≡ trail_of self.now }
+    {
+        self.entries.as_slice()
+    }
+
+    // The entry on this number.
+    pub fn find_number(&self, number: u8) -> Option<Entry>
+        ensures { Finds (concerns number) (trail_of self.now) result }
+    {
+        first(self.entries(), |e| e.concerns(number))
+    }
+
+    // The value for this measure.
+    pub fn find_value(&self, measure: u8) -> Option<Entry>
+        ensures { Finds (values measure) (trail_of self.now) result }
+    {
+        find_value(self.entries(), measure)
+    }
+
     // The entry that affirms the literal.
     pub fn find_literal(&self, literal: i8) -> Option<Entry>
         ensures { Finds (affirms literal) (trail_of self.now) result }
     {
-        let e = self.find_number(literal.unsigned_abs())?;
-        if e.affirms(literal) { Some(e) } else { None }
+        first(self.entries(), |e| e.affirms(literal))
     }
 
     // The entry that makes the literal false.
     pub fn find_denial(&self, literal: i8) -> Option<Entry>
         ensures { Finds (affirms (neg_ℤ literal)) (trail_of self.now) result }
     {
-        let e = self.find_number(literal.unsigned_abs())?;
-        if e.denies(literal) { Some(e) } else { None }
+        first(self.entries(), |e| e.denies(literal))
     }
 
     // The number is on the trail, affirmed or denied.
@@ -47,27 +73,21 @@ impl Trail {
     pub fn is_valued(&self, measure: u8) -> bool
         ensures { result ≡ valued measure (trail_of self.now) }
     {
-        self.find_value(measure).is_some()
+        is_valued(self.entries(), measure)
     }
 
     // The numerator of the measure, or 0.
     pub fn value(&self, measure: u8) -> i32
         ensures { result ≡ value measure (trail_of self.now) }
     {
-        match self.find_value(measure) {
-            Some(e) => e.numerator(),
-            None => 0,
-        }
+        self.find_value(measure).map_or(0, |e| e.numerator())
     }
 
     // The level of the measure's value, or 0.
     pub fn value_level(&self, measure: u8) -> u8
         ensures { result ≡ (entry_for (values measure) (trail_of self.now)).level }
     {
-        match self.find_value(measure) {
-            Some(e) => e.level(),
-            None => 0,
-        }
+        self.find_value(measure).map_or(0, |e| e.level())
     }
 
     pub fn affirms(&self, literal: i8) -> bool
@@ -86,30 +106,22 @@ impl Trail {
     pub fn false_at(&self, literal: i8) -> u8
         ensures { result ≡ false_at (trail_of self.now) literal }
     {
-        match self.find_denial(literal) {
-            Some(e) => e.level(),
-            None => 0,
-        }
+        self.find_denial(literal).map_or(0, |e| e.level())
     }
 
-    // The number of the clause that made the literal false, or 0.
-    pub fn reason_of_denial(&self, literal: i8) -> u8
-        ensures { result ≡ reason (entry_for (affirms (neg_ℤ literal)) (trail_of self.now)).content }
+    // The number of the clause that made the literal false.
+    pub fn reason_of_denial(&self, literal: i8) -> Option<u8>
+        ensures { MatchOption result (reason (entry_for (affirms (neg_ℤ literal)) (trail_of self.now)).content ≡ 0) (λ c. (0 < c) × (c ≡ reason (entry_for (affirms (neg_ℤ literal)) (trail_of self.now)).content)) }
     {
-        match self.find_denial(literal) {
-            Some(e) => e.reason(),
-            None => 0,
-        }
+        let reason = self.find_denial(literal)?.reason()?;
+        if reason == 0 { None } else { Some(reason) }
     }
 
     // The values made the literal false.
     pub fn denial_was_read(&self, literal: i8) -> bool
         ensures { result ≡ was_read (entry_for (affirms (neg_ℤ literal)) (trail_of self.now)).content }
     {
-        match self.find_denial(literal) {
-            Some(e) => e.was_read(),
-            None => false,
-        }
+        self.find_denial(literal).is_some_and(|e| e.was_read())
     }
 
     // How many choices there are.
@@ -117,6 +129,6 @@ impl Trail {
         ensures count { result ≡ choices (trail_of self.now) }
         ensures bound { result ≤ 143 }
     {
-        count_choices(self.entries())
+        self.entries().iter().filter(|e| e.is_choice()).count() as u8
     }
 }

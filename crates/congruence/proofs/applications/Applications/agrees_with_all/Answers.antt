@@ -1,20 +1,13 @@
-use Rattle.std.proofs.Common.{sym}
-use Rattle.congruence.specs.Applications.{agree}
+use Rattle.std.proofs.Common.{Bool, rules, tests}
+use Rattle.std.proofs.lemmas.Iterator.{YieldsList-from_slice}
+use Rattle.std.proofs.lemmas.Iterator.Search.{all_from_yields_List}
+use Rattle.congruences.specs.Applications.{Application, agree}
 use Rattle.congruence.specs.Views.{application_of}
-use Rattle.congruence.proofs.Tables.{rows_more, rows_stop, rows_end}
+use Rattle.congruence.proofs.Tables.{all_rows}
 use Rattle.congruence.proofs.applications.Applications.agrees_with_all.Goals as goal
-
-pub loop-k-preserved : goal.loop-k-preserved
-loop-k-preserved c =
-    let t = c.args.self.now in
-    rows_more t (agree c.args.numerators.now (application_of c.args.p.now)) c.loop-k.k c.index-self-k.result c.loop-k-test.true (sym c.if-not-do_agree.ensures) c.loop-k.invariant
-
-pub returns-then-not-do_agree : goal.returns-then-not-do_agree
-returns-then-not-do_agree c =
-    let t = c.args.self.now in
-    sym (rows_stop t (agree c.args.numerators.now (application_of c.args.p.now)) c.loop-k.k c.index-self-k.result c.loop-k-test.true (sym c.if-not-do_agree.ensures) c.loop-k.invariant)
 
 pub returns : goal.returns
 returns c =
-    let t = c.args.self.now in
-    sym (rows_end t (agree c.args.numerators.now (application_of c.args.p.now)) c.loop-k.k c.loop-k-test.false c.loop-k.invariant)
+    let test : Application → Bool = agree c.args.numerators.now (application_of c.args.p.now) in
+    let rows = c.args.self.now.rows.items in
+    all_rows test rows c.all.result (all_from_yields_List (λ a. test (application_of a)) _ _ _ c.all.ensures.ran (YieldsList-from_slice rows cc) (λ x b q k. search (rules, tests)))

@@ -1,11 +1,15 @@
-use Rattle.std.proofs.Common.{subst, to_z-of_z, w8, to_z, of_z}
-use Rattle.tables.specs.Tables.{literals_of, draft_of, Makes}
-use Rattle.tables.proofs.Resolving.{resolved_is}
+use Rattle.std.proofs.Common.{arith, to_z-of_z}
+use Rattle.tables.specs.Tables.{literals_of}
+use Rattle.tables.proofs.Resolving.{joined, joined_fits, joined_long}
 use Rattle.tables.proofs.clause.Clause.resolved.Goals as goal
+
+pub returns-in_err-ok : goal.returns-in_err-ok
+returns-in_err-ok c =
+    let long = joined_long c.args.literal _ (literals_of c.args.self.now) c.args.reason.now _ _ (to_z-of_z c.ranges.literal) c.without-resolvent.ensures c.followers-followers.ensures in
+    grind (arith, long)
 
 pub returns : goal.returns
 returns c =
-    let l = c.args.literal in
-    let is = resolved_is l (to_z w8 (of_z w8 l)) (literals_of c.args.self.now) c.args.reason.now (draft_of c.new-held.result) c.literals.result.now (draft_of c.keep_others.new.draft) c.literals-2.result.now (draft_of c.keep_followers.new.draft) c.literals-3.result.now
-    (to_z-of_z c.ranges.literal) c.new-held.ensures c.literals.ensures.same c.keep_others.ensures.kept c.literals-2.ensures c.keep_followers.ensures c.literals-3.ensures in
-    subst (λ ls. Makes ls c.of.result) is c.of.ensures
+    let fits = joined_fits c.args.literal _ (literals_of c.args.self.now) c.args.reason.now _ _ (to_z-of_z c.ranges.literal) c.without-resolvent.ensures c.followers-followers.ensures in
+    let whole = joined c.args.literal _ (literals_of c.args.self.now) c.args.reason.now _ _ (to_z-of_z c.ranges.literal) c.without-resolvent.ensures c.followers-followers.ensures in
+    grind (arith, fits, whole)

@@ -1,17 +1,21 @@
-use Rattle.std.proofs.Common.{ℕ, ◌+◌, ◌<◌, [], ◌∷◌, ◌++◌, length, take, ℤ, sym, ap, ◌∙◌, arith, to_z-of_z, w32, SFits, rules}
-use Rattle.std.proofs.lemmas.List.{length-set, take_more_set}
-use Rattle.std.proofs.lemmas.List.FromFn.{map-range_with_len_more}
+use Rattle.std.proofs.Common.{map, ap, ◌∙◌, arith, rules, to_z-of_z, w32, SFits}
+use Rattle.std.specs.List.{range_with_len}
 use Rattle.calculus.specs.Trails.{value}
 use Rattle.tables.specs.Tables.{trail_of}
+use Rattle.tables.proofs.Weighing.{values_more}
 use Rattle.tables.proofs.trail.Trail.numerators.Goals as goal
 
-pub loop-i-preserved : goal.loop-i-preserved
-loop-i-preserved c =
-    let vs = c.loop-i.numerators in
-    let i = c.loop-i.i in
-    let h : i < length vs = omega (arith, c.loop-i.invariant.0) in
+pub loop-j-preserved : goal.loop-j-preserved
+loop-j-preserved c =
     let f : SFits w32 c.value.result = search rules in
-    let at : ℕ → ℤ = λ j. value j (trail_of c.args.self.now) in (
-      length-set _ _ _ ∙ c.loop-i.invariant.0,
-      take_more_set vs i _ h ∙ ap (λ x. take i vs ++ x ∷ []) (to_z-of_z f ∙ c.value.ensures) ∙ ap (λ xs. xs ++ at (i + 1) ∷ []) c.loop-i.invariant.1 ∙ sym (map-range_with_len_more at 1 i (i + 1) (omega arith)),
-    )
+    let more = values_more (λ i. value i (trail_of c.args.self.now)) _ _ _ _ c.loop-j.invariant.1 c.loop-j.invariant.2 c.push.ensures.items (to_z-of_z f ∙ c.value.ensures) in
+    (omega (arith, c.loop-j-test.true), omega (arith, c.push.ensures.len, c.loop-j.invariant.1), more)
+
+pub returns : goal.returns
+returns c = c.loop-j.invariant.2 ∙ ap (λ n. map (λ i. value i (trail_of c.args.self.now)) (range_with_len 1 n)) (omega (arith, c.loop-j.invariant.0, c.loop-j.invariant.1, c.loop-j-test.false))
+
+pub returns-2 : goal.returns-2
+returns-2 c =
+    let f : SFits w32 c.value.result = search rules in
+    let more = values_more (λ i. value i (trail_of c.args.self.now)) _ _ _ _ c.loop-j.invariant.1 c.loop-j.invariant.2 c.push.ensures.items (to_z-of_z f ∙ c.value.ensures) in
+    more ∙ ap (λ n. map (λ i. value i (trail_of c.args.self.now)) (range_with_len 1 n)) (grind (arith, c.push.ensures.len, c.loop-j.invariant.1))

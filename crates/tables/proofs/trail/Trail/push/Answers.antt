@@ -1,25 +1,16 @@
-use Rattle.std.proofs.Common.{ap, ◌∙◌, arith}
-use Rattle.std.proofs.lemmas.List.{length-set}
-use Rattle.calculus.proofs.Tabling.{push_table}
-use Rattle.tables.specs.Views.{entry_of}
+use Rattle.std.proofs.Common.{◌≡◌, [], ◌∷◌, ◌++◌, ap, ◌∙◌, arith}
+use Rattle.std.proofs.lemmas.List.{map-append}
+use Rattle.tables.specs.Views.{entry_of, entries_of}
 use Rattle.tables.specs.Keys.{tidy}
 use Rattle.tables.specs.Tables.{trail_of}
 use Rattle.tables.proofs.Tidying.{tidy_push}
 use Rattle.tables.proofs.Tables.{room_of}
 use Rattle.tables.proofs.trail.Trail.push.Goals as goal
 
-pub bounds-self-self : goal.bounds-self-self
-bounds-self-self c = room_of c.args.self.now c.args.entry c.requires.in_range c.requires.off_trail
+pub push-requires : goal.push-requires
+push-requires c = (omega arith, room_of c.args.self.now c.args.entry c.requires.in_range c.requires.off_trail)
 
 pub invariant_of-self : goal.invariant_of-self
 invariant_of-self c =
-    let t = c.args.self.now in
-    let room = room_of t c.args.entry c.requires.in_range c.requires.off_trail in
-    let e = push_table entry_of t.entries t.len c.args.entry (omega (arith, t.whole)) in
-    record { whole = length-set _ _ _ ∙ t.whole; fits = omega arith; tidied = ap tidy e ∙ tidy_push (trail_of t) (entry_of c.args.entry) t.tidied c.requires.in_range c.requires.off_trail }
-
-pub returns : goal.returns
-returns c =
-    let t = c.args.self.now in
-    let room = room_of t c.args.entry c.requires.in_range c.requires.off_trail in
-    push_table entry_of t.entries t.len c.args.entry (omega (arith, t.whole))
+    let e : entries_of c.push.new.self.items ≡ trail_of c.args.self.now ++ entry_of c.args.entry ∷ [] = ap entries_of c.push.ensures.items ∙ map-append entry_of c.args.self.now.entries.items (c.args.entry ∷ []) in
+    record { tidied = ap tidy e ∙ tidy_push (trail_of c.args.self.now) (entry_of c.args.entry) c.args.self.now.tidied c.requires.in_range c.requires.off_trail }

@@ -1,0 +1,2 @@
+pub mod Applications
+pub mod Congruences

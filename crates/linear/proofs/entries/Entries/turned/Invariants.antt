@@ -1,0 +1,6 @@
+use Rattle.std.proofs.Common.{◌≡◌, map, take}
+use Rattle.rows.specs.Rows.{turned_entry}
+use Rattle.linear.proofs.entries.Entries.turned.Given as goal
+
+abbrev pub invariant-loop-e : goal.invariant-loop-e
+invariant-loop-e l = l.turned.items.items ≡ map turned_entry (take l.e-index l.entries)
