@@ -14,11 +14,5 @@ Unmet p xs i = some p (drop i xs) ≡ some p xs
 pub every_end : {X : Type 0} (p : X → Bool) (xs : List X) (i : ℕ) → length xs ≤ i → Unfailed p xs i → every p xs ≡ true
 every_end p xs i h inv = sym inv ∙ at_drop_all (every p) xs i h
 
-pub some_stop : {X : Type 0} (p : X → Bool) (xs : List X) (i : ℕ) (d : X) → i < length xs → p (get_or xs i d) ≡ true → Unmet p xs i → some p xs ≡ true
-some_stop p xs i d h f inv = sym inv ∙ at_drop_more (some p) xs i d h ∙ ap (λ b. b || some p (drop (i + 1) xs)) f
-
-pub some_more : {X : Type 0} (p : X → Bool) (xs : List X) (i : ℕ) (d : X) → i < length xs → p (get_or xs i d) ≡ false → Unmet p xs i → Unmet p xs (i + 1)
-some_more p xs i d h f inv = sym (at_drop_more (some p) xs i d h ∙ ap (λ b. b || some p (drop (i + 1) xs)) f) ∙ inv
-
 pub some_end : {X : Type 0} (p : X → Bool) (xs : List X) (i : ℕ) → length xs ≤ i → Unmet p xs i → some p xs ≡ false
 some_end p xs i h inv = sym inv ∙ at_drop_all (some p) xs i h

@@ -12,7 +12,7 @@ use tables::trail::{MOST_MEASURES, Trail};
 const MOST_SWITCHES: usize = 127;
 
 // Yes or no for each switch, and for each measure a numerator over one denominator.
-#[derive(Drop)]
+#[derive(Clone, Drop)]
 pub struct Arrangement {
     switches: ArrayVec<bool, MOST_SWITCHES>,
     numerators: ArrayVec<i32, MOST_MEASURES>,
@@ -41,7 +41,8 @@ impl Arrangement {
     }
 }
 
-// Whether the trail affirms each of the first numbers, in their order.
+// Whether the trail affirms each of the first numbers, in their order. (The numerators of a trail are made alike: one
+// function over both would need a closure with a contract longer than the loop.)
 fn affirmed(trail: &Trail, count: u8) -> ArrayVec<bool, MOST_SWITCHES>
     requires { count ≤ 127 }
     ensures { result.items ≡ map (λ n. on_trail (pos n) (trail_of trail.now)) (range_with_len 1 count) }
@@ -53,7 +54,8 @@ fn affirmed(trail: &Trail, count: u8) -> ArrayVec<bool, MOST_SWITCHES>
     switches
 }
 
-// The arrangement that the trail makes: a switch that it does not affirm counts as no.
+// The arrangement that the trail makes: a switch that it does not affirm counts as no. It asks nothing of the
+// denominator, and so stands beside the claim.
 pub fn arrange<T: Theory>(theory: &T, switches: u8, denominator: u32, trail: &Trail) -> Arrangement
     requires { switches ≤ 127 }
     ensures { arrangement_of result ≡ arrangement T.Theory.kind (T.Theory.model theory.now) switches denominator (trail_of trail.now) }

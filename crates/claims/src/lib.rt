@@ -44,7 +44,8 @@ pub struct Claim<'a, T> {
 }
 
 impl<T: Theory> Claim<'_, T> {
-    // The literal is true in the arrangement that the trail makes.
+    // The literal is true in the arrangement that the trail makes. A word for that arrangement would stand between the
+    // reader and the definition, here and in the three below.
     fn is_literal_met(&self, literal: i8) -> bool
         ensures { result ≡ signed literal (holds T.Theory.kind (T.Theory.model self.now.reading.atoms.theory.now) self.now.reading.atoms.switches (arrangement T.Theory.kind (T.Theory.model self.now.reading.atoms.theory.now) self.now.reading.atoms.switches self.now.reading.denominator (trail_of self.now.trail.now))) }
     {

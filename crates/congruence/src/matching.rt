@@ -52,7 +52,8 @@ impl<T: Theory> Reading<'_, T> {
         holds_at_each_place(left, right, |i, j| i == j || self.denies(i, j))
     }
 
-    // Whether every literal is on a switch or on an atom of the theory below.
+    // Whether every literal is on a switch or on an atom of the theory below: a line, as the like of it in linear and in
+    // tables.
     fn is_there(&self) -> bool
         ensures { result ≡ all_there T.Theory.kind (T.Theory.model self.now.below.now) self.now.switches self.now.clause.now }
     {

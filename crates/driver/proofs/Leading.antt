@@ -1,12 +1,12 @@
 -- Which phase a call leads to, and that a call out of its phase is refused.
-use Rattle.std.proofs.Common.{◌≡◌, ℕ, Bool, true, false, List, ℤ, Ok, Err, refl, ap}
+use Rattle.std.proofs.Common.{◌≡◌, Bool, true, false, List, ℤ, Ok, Err, refl, ap}
 use Rattle.faults.specs.declared.StateCause.TheVariants.{WrongPhase}
 use Rattle.faults.specs.declared.SessionFault.{SessionFault}
 use Rattle.faults.specs.declared.SessionFault.TheVariants as session
 use Rattle.calculus.specs.Calls.{Call}
 use Rattle.calculus.specs.Calls.Call.{Counts, Declare, Admit, Rule, Seal, Lemma, Choose, Set, Propagate, Read, Conflict, Resolve, Jump, Concede, Claim, Abandon}
 use Rattle.calculus.specs.Kinds.{Kind}
-use Rattle.calculus.specs.States.{Phase, State, is_drafting, is_analysing}
+use Rattle.calculus.specs.States.{Phase, State, is_drafting}
 use Rattle.calculus.specs.Steps.{Reply, Outcome, need, step}
 use Rattle.calculus.proofs.Stepping.{stepped}
 use Rattle.verdicts.proofs.Taking.{if_accepted}
@@ -44,13 +44,7 @@ module _ (K : Kind) where
   refused_keeps : (s : State K) (f : SessionFault) → Kept s (Err f, s)
   refused_keeps s f = refl
 
-  -- the calls that keep the phase
-  pub declare_keeps : (s : State K) (body : List ℕ) → Kept s (step K s (Declare body))
-  declare_keeps s body = stepped K (Kept s) s (refused_keeps s) (Declare body) (λ _ n _. refl)
-
-  pub rule_keeps : (s : State K) (ls : List ℤ) → Kept s (step K s (Rule ls))
-  rule_keeps s ls = stepped K (Kept s) s (refused_keeps s) (Rule ls) (λ _ _ _ _ _. refl)
-
+  -- a call that needs no token and gives none keeps the phase, and so does one that is refused out of its phase
   pub plain_keeps : (c : Call) (s : State K) → (is_token_call c ≡ true → serves c s.phase ≡ false) → Kept s (step K s c)
   plain_keeps (Counts w t) s h = kept_if_refused (Counts w t) s (h refl)
   plain_keeps (Declare body) s h = kept_if_refused (Declare body) s (h refl)
@@ -70,30 +64,11 @@ module _ (K : Kind) where
   plain_keeps Abandon s h = kept_if_refused Abandon s (h refl)
 
   -- where an accepted call leads
-  abbrev Leads : (Phase → Bool) → State K → Call → Type 0
+  abbrev pub Leads : (Phase → Bool) → State K → Call → Type 0
   Leads q s c = (r : Reply) → (step K s c).0 ≡ Ok r → q (step K s c).1.phase ≡ true
 
-  pub counts_leads : (s : State K) (w t : ℕ) → Leads is_drafting s (Counts w t)
-  counts_leads s w t r = if_accepted K s (Counts w t) r (λ u. is_drafting u.phase ≡ true) (λ _ _ n _ _. refl)
-
-  pub conflict_leads : (s : State K) (c : ℕ) → Leads is_analysing s (Conflict c)
-  conflict_leads s c r = if_accepted K s (Conflict c) r (λ u. is_analysing u.phase ≡ true) (λ _ _ _ _. refl)
-
-  pub resolve_leads : (s : State K) (n : ℕ) → Leads is_analysing s (Resolve n)
-  resolve_leads s n r = if_accepted K s (Resolve n) r (λ u. is_analysing u.phase ≡ true) (λ _ _ _ _ _. refl)
-
-  -- to a phase in which nothing is held
-  pub seal_leads : (s : State K) (d : ℕ) → Leads is_idle s (Seal d)
-  seal_leads s d r = if_accepted K s (Seal d) r (λ u. is_idle u.phase ≡ true) (λ _ _ _. refl)
+  pub rule_leads : (s : State K) (ls : List ℤ) → Leads is_drafting s (Rule ls)
+  rule_leads s ls r = if_accepted K s (Rule ls) r (λ u. is_drafting u.phase ≡ true) (λ p _ _ _ _ _. p)
 
   pub jump_leads : (s : State K) (l : ℤ) → Leads is_idle s (Jump l)
   jump_leads s l r = if_accepted K s (Jump l) r (λ u. is_idle u.phase ≡ true) (λ _ _ _ _ _ _. (λ _ _. refl, λ _ _ _. refl))
-
-  pub concede_leads : (s : State K) → Leads is_idle s Concede
-  concede_leads s r = if_accepted K s Concede r (λ u. is_idle u.phase ≡ true) (λ _ _ _. refl)
-
-  pub claim_leads : (s : State K) → Leads is_idle s Claim
-  claim_leads s r = if_accepted K s Claim r (λ u. is_idle u.phase ≡ true) (λ _ _ _ _ _. refl)
-
-  pub abandon_leads : (s : State K) → Leads is_idle s Abandon
-  abandon_leads s r = if_accepted K s Abandon r (λ u. is_idle u.phase ≡ true) (λ _ _. refl)

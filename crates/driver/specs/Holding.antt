@@ -26,6 +26,11 @@ abbrev pub taken_of : Result Reply SessionFault → Result (Unit {0}) SessionFau
 taken_of (Ok r) = Ok tt
 taken_of (Err f) = Err f
 
+-- after a call that spends a token: nothing is held, or the token that a refusal gave back
+abbrev pub back_held : {P : Type 0} → (P → Held) → Result (Unit {0}) (P × SessionFault) → Held × Result (Unit {0}) SessionFault
+back_held hold (Ok x) = (Nothing, Ok tt)
+back_held hold (Err x) = (hold x.0, Err x.1)
+
 -- the calls that need a token, give one out or close the session
 abbrev pub is_token_call : Call → Bool
 is_token_call (Counts w t) = true

@@ -1,5 +1,5 @@
 -- Records taken to a session.
-use Rattle.std.specs.Prelude.{ℕ, ◌≤◌, ◌⊎◌, length, Ok, Err, Result}
+use Rattle.std.specs.Prelude.{ℕ, cond, ◌⊎◌, length, Some, None, Ok, Err, Option, Result, nat_le}
 use Rattle.std.proofs.Common.{inl, inr}
 use Rattle.faults.specs.declared.InputCause.{InputCause}
 use Rattle.faults.specs.declared.SessionFault.{SessionFault}
@@ -12,24 +12,28 @@ use Rattle.calculus.specs.States.{State}
 use Rattle.calculus.specs.Steps.{Reply, step}
 use Rattle.files.specs.declared.records.Stop.{Stop}
 
--- there is room for its literals
-abbrev pub Short : ℕ → Call → Type 0
-Short room (Counts w t) = Unit {0}
-Short room (Declare body) = Unit {0}
-Short room (Admit body) = Unit {0}
-Short room (Rule ls) = length ls ≤ room
-Short room (Seal d) = Unit {0}
-Short room (Lemma ls hint) = length ls ≤ room
-Short room (Choose l) = Unit {0}
-Short room (Set j x) = Unit {0}
-Short room (Propagate c l) = Unit {0}
-Short room (Read n) = Unit {0}
-Short room (Conflict c) = Unit {0}
-Short room (Resolve n) = Unit {0}
-Short room (Jump l) = Unit {0}
-Short room Concede = Unit {0}
-Short room Claim = Unit {0}
-Short room Abandon = Unit {0}
+-- how many literals it writes
+abbrev pub literal_count : Call → ℕ
+literal_count (Counts w t) = 0
+literal_count (Declare body) = 0
+literal_count (Admit body) = 0
+literal_count (Rule ls) = length ls
+literal_count (Seal d) = 0
+literal_count (Lemma ls hint) = length ls
+literal_count (Choose l) = 0
+literal_count (Set j x) = 0
+literal_count (Propagate c l) = 0
+literal_count (Read n) = 0
+literal_count (Conflict c) = 0
+literal_count (Resolve n) = 0
+literal_count (Jump l) = 0
+literal_count Concede = 0
+literal_count Claim = 0
+literal_count Abandon = 0
+
+-- the call, if there is room for its literals
+abbrev pub fitting : ℕ → Call → Option Call
+fitting room c = cond (nat_le (literal_count c) room) (Some c) None
 
 module _ (K : Kind) where
   -- the fault of a refused call, or else the state that it leaves

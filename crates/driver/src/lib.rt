@@ -2,6 +2,6 @@
 #![tactic(auto)]
 
 pub mod held;
-mod records;
+pub mod records;
 pub mod replaying;
 mod stepping;

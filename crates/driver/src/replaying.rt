@@ -13,7 +13,7 @@ use session::replaying::Order;
 
 // Makes a session and carries out the calls. It stands for the state that the calculus gives, and that state keeps the
 // guarantees. What the session gave out and did not get back comes with it: a permit while it drafts, a conflict while it
-// analyses, and else nothing.
+// analyses, and else nothing. (That of the session stands below, and makes tokens of its own: it could not promise this.)
 pub fn replay<T: Theory + Drop>(orders: &[Order]) -> (Session<T>, Held)
     ensures led { view T.Theory.kind T.Theory.model result.0 ≡ run T.Theory.kind (map call_of orders.now) }
     ensures sound { Guarantees T.Theory.kind (view T.Theory.kind T.Theory.model result.0) }

@@ -1,7 +1,7 @@
 // One call: what is held goes in, and what is held then comes out.
 ghost use Rattle.std.specs.Prelude.{◌≡◌};
 ghost use Rattle.session.specs.Orders.{call_of};
-ghost use Rattle.driver.specs.Holding.{Holds, Obeys, Advances, NotServed, SamePhase};
+ghost use Rattle.driver.specs.Holding.{Holds, Obeys, Advances, NotServed, SamePhase, back_held};
 ghost use Rattle.driver.specs.declared.held.Held.TheVariants.{Nothing, Draft, Analysis};
 
 use crate::held::Held;
@@ -12,9 +12,7 @@ use session::{Conflict, Permit, Session};
 
 // The calls that need nothing in hand and give nothing out. Any other is refused: it does not serve now.
 fn plain<T: Theory>(session: &mut Session<T>, order: Order) -> Result<(), SessionFault>
-    requires { NotServed T.Theory.kind T.Theory.model (call_of order) session.old }
-    ensures obeys { Obeys T.Theory.kind T.Theory.model session.old (call_of order.entry) result session.new }
-    ensures phase { SamePhase T.Theory.kind T.Theory.model session.old session.new }
+    ensures { NotServed T.Theory.kind T.Theory.model (call_of order.entry) session.old → Obeys T.Theory.kind T.Theory.model session.old (call_of order.entry) result session.new × SamePhase T.Theory.kind T.Theory.model session.old session.new }
 {
     match order {
         Order::Admit(body) => session.admit(body),
@@ -27,10 +25,10 @@ fn plain<T: Theory>(session: &mut Session<T>, order: Order) -> Result<(), Sessio
     }
 }
 
-// Nothing is held: the session is new, searching or closed.
+// Nothing is held: the session is new, searching or closed. Counts and conflict here, and seal below, give or take another
+// type of token each: with the constructor as a parameter one function would need a contract on it.
 fn search<T: Theory>(session: &mut Session<T>, order: Order) -> (Held, Result<(), SessionFault>)
-    requires { Holds T.Theory.kind T.Theory.model Nothing session.old }
-    ensures { Advances T.Theory.kind T.Theory.model session.old (call_of order.entry) result session.new }
+    ensures { Holds T.Theory.kind T.Theory.model Nothing session.old → Advances T.Theory.kind T.Theory.model session.old (call_of order.entry) result session.new }
 {
     match order {
         Order::Counts(switches, measures) => match session.counts(switches, measures) {
@@ -41,14 +39,8 @@ fn search<T: Theory>(session: &mut Session<T>, order: Order) -> (Held, Result<()
             Ok(conflict) => (Held::Analysis(conflict), Ok(())),
             Err(fault) => (Held::Nothing, Err(fault)),
         },
-        Order::Claim => match session.claim() {
-            Ok(_) => (Held::Nothing, Ok(())),
-            Err(fault) => (Held::Nothing, Err(fault)),
-        },
-        Order::Abandon => match session.abandon() {
-            Ok(()) => (Held::Nothing, Ok(())),
-            Err(fault) => (Held::Nothing, Err(fault)),
-        },
+        Order::Claim => (Held::Nothing, session.claim().map(|_| ())),
+        Order::Abandon => (Held::Nothing, session.abandon()),
         _ => (Held::Nothing, plain(session, order)),
     }
 }
@@ -59,8 +51,7 @@ fn draft<T: Theory>(
     permit: Permit,
     order: Order,
 ) -> (Held, Result<(), SessionFault>)
-    requires { Holds T.Theory.kind T.Theory.model (Draft permit) session.old }
-    ensures { Advances T.Theory.kind T.Theory.model session.old (call_of order.entry) result session.new }
+    ensures { Holds T.Theory.kind T.Theory.model (Draft permit) session.old → Advances T.Theory.kind T.Theory.model session.old (call_of order.entry) result session.new }
 {
     match order {
         Order::Declare(body) => {
@@ -79,50 +70,58 @@ fn draft<T: Theory>(
     }
 }
 
+// The conflict is spent, or it comes back with a fault.
+fn unless_back(done: Result<(), (Conflict, SessionFault)>) -> (Held, Result<(), SessionFault>)
+    ensures { result ≡ back_held Analysis done }
+{
+    match done {
+        Ok(()) => (Held::Nothing, Ok(())),
+        Err((conflict, fault)) => (Held::Analysis(conflict), Err(fault)),
+    }
+}
+
 // A conflict is held: it is analysed.
 fn analyse<T: Theory>(
     session: &mut Session<T>,
     conflict: Conflict,
     order: Order,
 ) -> (Held, Result<(), SessionFault>)
-    requires { Holds T.Theory.kind T.Theory.model (Analysis conflict) session.old }
-    ensures { Advances T.Theory.kind T.Theory.model session.old (call_of order.entry) result session.new }
+    ensures { Holds T.Theory.kind T.Theory.model (Analysis conflict) session.old → Advances T.Theory.kind T.Theory.model session.old (call_of order.entry) result session.new }
 {
     match order {
-        Order::Resolve(number) => match session.resolve(&conflict, number) {
-            Ok(()) => (Held::Analysis(conflict), Ok(())),
-            Err(fault) => (Held::Analysis(conflict), Err(fault)),
-        },
-        Order::Jump(literal) => match session.jump(conflict, literal) {
-            Ok(()) => (Held::Nothing, Ok(())),
-            Err((conflict, fault)) => (Held::Analysis(conflict), Err(fault)),
-        },
-        Order::Concede => match session.concede(conflict) {
-            Ok(()) => (Held::Nothing, Ok(())),
-            Err((conflict, fault)) => (Held::Analysis(conflict), Err(fault)),
-        },
-        Order::Abandon => match session.abandon_conflict(conflict) {
-            Ok(()) => (Held::Nothing, Ok(())),
-            Err((conflict, fault)) => (Held::Analysis(conflict), Err(fault)),
-        },
+        Order::Resolve(number) => {
+            let done = session.resolve(&conflict, number);
+            (Held::Analysis(conflict), done)
+        }
+        Order::Jump(literal) => unless_back(session.jump(conflict, literal)),
+        Order::Concede => unless_back(session.concede(conflict)),
+        Order::Abandon => unless_back(session.abandon_conflict(conflict)),
         _ => (Held::Analysis(conflict), plain(session, order)),
     }
 }
 
 impl Held {
-    // Takes one call to the session: what is held goes in, and what is held then comes out.
-    pub(crate) fn step<T: Theory>(
+    // Takes one call to the session: what is held goes in, and what is held then comes out. No struct holds the two, since
+    // a conflict can be neither dropped nor left behind in one that is lent.
+    pub fn step<T: Theory>(
         self,
         session: &mut Session<T>,
         order: Order,
     ) -> (Held, Result<(), SessionFault>)
-        requires { Holds T.Theory.kind T.Theory.model self session.old }
-        ensures { Advances T.Theory.kind T.Theory.model session.old (call_of order.entry) result session.new }
+        ensures { Holds T.Theory.kind T.Theory.model self session.old → Advances T.Theory.kind T.Theory.model session.old (call_of order.entry) result session.new }
     {
         match self {
             Held::Nothing => search(session, order),
             Held::Draft(permit) => draft(session, permit, order),
             Held::Analysis(conflict) => analyse(session, conflict, order),
+        }
+    }
+
+    // Gives up the session together with what is held.
+    pub fn end<T: Theory + Drop>(self, session: Session<T>) {
+        match self {
+            Held::Nothing | Held::Draft(_) => {}
+            Held::Analysis(conflict) => session.leave(conflict),
         }
     }
 }

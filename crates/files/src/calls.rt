@@ -34,7 +34,8 @@ impl Literals<'_> {
         self.bytes.get(i).map(|b| signed_byte(*b))
     }
 
-    // Writes the literals to the front of `out`, and says how many: none is written where they do not all fit.
+    // Writes the literals to the front of `out`, and says how many: none is written where they do not all fit. The buffer
+    // is lent, since bytes become signed bytes by a copy alone; a zip over its places would say no more than the count.
     pub fn copy_to(&self, out: &mut [i8]) -> Option<usize>
         ensures count { result ≡ copied_count (literals self.now) out.old }
         ensures after { out.new ≡ copied (literals self.now) out.old }

@@ -16,7 +16,8 @@ pub struct Frame<'a> {
 }
 
 impl<'a> Frame<'a> {
-    // Takes an input apart: a byte for the theory, four for the length of the case, the case, and then the log.
+    // Takes an input apart: a byte for the theory, four for the length of the case, the case, and then the log. As
+    // `try_from` it would say no more.
     pub fn of(input: &'a [u8]) -> Result<Frame<'a>, FileFault>
         ensures { frame_view result ≡ in_file (framed input.now) }
     {

@@ -22,6 +22,7 @@ pub fn read_all<'a>(heap: Global, kind: FileKind, file: &'a [u8]) -> Result<List
 {
     let mut records = Vec::new(heap);
     let mut reader = Reader::over(kind, file);
+    // a file that is refused whole, as the program refuses a frame: three lines each
     if let Err(fault) = reader.open() {
         return Ok(Listing {
             records,

@@ -18,7 +18,7 @@ pub struct Atom {
     ghost near: { sized most_size constant ≡ true },
 }
 
-// 0 < 0, which stands where there is no atom.
+// 0 < 0, which stands where there is no atom. A derive gives no value to a ghost field.
 impl Default for Atom {
     ghost use Rattle.linear.specs.Views.{row};
 
@@ -63,7 +63,8 @@ impl Atom {
         self.entries.mentions(measure)
     }
 
-    // Whether the row is true of these numerators over the denominator.
+    // Whether the row is true of these numerators over the denominator: the two arguments of a theory's questions. A struct
+    // of both would stand in every theory.
     pub fn holds(&self, numerators: &[i32], denominator: u32) -> bool
         requires sized { every (sized most_numerator) numerators.now ≡ true }
         requires denominator { denominator ≤ most_denominator }

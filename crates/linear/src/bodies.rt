@@ -36,14 +36,15 @@ pub fn well_long(body: &[u8]) -> bool
     matches!(body, [_, count, ..] if body.len() == 6 + 5 * usize::from(*count))
 }
 
-// The entry i, counted from 0.
-fn entry(body: &[u8], i: usize) -> Entry
-    requires { 6 + 5 * i < length body.now }
-    ensures { result ≡ entry_at body.now i }
+// The entry of a chunk of five bytes.
+fn entry(chunk: &[u8; 5]) -> Entry
+    ensures measure { result.measure ≡ byte_at chunk.now 0 }
+    ensures coefficient { result.coefficient ≡ word_at chunk.now 1 }
 {
+    let [measure, a, b, c, d] = *chunk;
     Entry {
-        measure: body[2 + 5 * i],
-        coefficient: word(body, 3 + 5 * i),
+        measure,
+        coefficient: numerals::signed_word(a, b, c, d),
     }
 }
 
@@ -62,8 +63,9 @@ fn entries(body: &[u8], count: u8, measures: u8) -> Option<Entries>
 {
     let mut entries = Entries::default();
     let mut last = 0;
-    for i in 0..usize::from(count) {
-        let e = entry(body, i);
+    let (chunks, _) = body[2..].as_chunks::<5>();
+    for chunk in chunks {
+        let e = entry(chunk);
         if !follows(&e, last, measures) {
             return None;
         }

@@ -30,6 +30,7 @@ fn knows(linear: &Linear, switches: u8, literal: i8) -> bool
     is_within(count, number)
 }
 
+// A line, as the like of it in congruence and in tables.
 fn knows_all(linear: &Linear, switches: u8, literals: &[i8]) -> bool
     ensures { result ≡ known_in (table linear.now).rows switches literals.now }
 {
@@ -55,7 +56,8 @@ impl<'a> Clause<'a> {
         })
     }
 
-    // The atom that a literal is on, or none where it is on a switch.
+    // The atom that a literal is on, or none where it is on a switch. That the literal is known is what the clause says of
+    // all of its own, handed on for one.
     pub fn atom(&self, literal: i8) -> Option<&'a Atom>
         requires { within (self.now.switches + length (table self.now.linear.now).rows) (number literal) ≡ true }
         ensures { MatchOption result (nat_le (number literal) self.now.switches ≡ true) (λ a. (nat_le (number literal) self.now.switches ≡ false) × (row a.now ≡ row_of (table self.now.linear.now).rows self.now.switches literal)) }
@@ -85,12 +87,9 @@ impl<'a> Clause<'a> {
         requires { F.IsAlwaysCallable test.now }
         ensures { (p : Row → Bool) → ((a : _) (r : Bool) → F.post test.now a r → r ≡ p (row a.now)) → result ≡ some (affirmed_by (table self.now.linear.now).rows self.now.switches p) self.now.literals.now }
     {
-        for literal in self.literals {
-            if self.affirms(*literal, test) {
-                return true;
-            }
-        }
-        false
+        self.literals
+            .iter()
+            .any(|literal| self.affirms(*literal, test))
     }
 
     // Whether the clause affirms the atom's row in that relation.

@@ -70,6 +70,7 @@ pub struct Summand<'a> {
     ghost near: { sized most_size multiplier ≡ true },
 }
 
+// By `match`: with `map_or` and `is_some_and` the search did not prove `returns`, nor with a helper behind the closure.
 impl Summand<'_> {
     ghost use Rattle.linear.specs.Denials.{denied_if};
 

@@ -30,7 +30,7 @@ fn on_both(e: &Entry, f: &Entry, i: u8, j: u8) -> bool
     e.measure == i && f.measure == j || e.measure == j && f.measure == i
 }
 
-// Whether the coefficients add to 0, and are not 0.
+// Whether the coefficients add to 0, and are not 0. An entry is read before its size is known, so its type does not say it.
 fn opposite(e: &Entry, f: &Entry) -> bool
     requires left { sized most_size e.now.coefficient ≡ true }
     requires right { sized most_size f.now.coefficient ≡ true }
@@ -56,6 +56,7 @@ pub struct Entries {
     ghost small: { small_entries items.items ≡ true },
 }
 
+// Without entries. A derive gives no value to a ghost field.
 impl Default for Entries {
     ghost is_default = { λ es. es.items.items ≡ [] };
 
@@ -88,6 +89,7 @@ impl Entries {
         requires { every (sized most_numerator) numerators.now ≡ true }
         ensures { result ≡ weight self.now.items.items numerators.now }
     {
+        // a `for` loop here and in `coefficient`: the library's `sum` of signed numbers needs a bound on every partial sum
         let entries = self.as_slice();
         let mut sum: i64 = 0;
         for e in entries {
@@ -118,7 +120,7 @@ impl Entries {
         self.items.iter().any(|e| e.measure == measure)
     }
 
-    // All signs turned.
+    // All signs turned. They are pushed one by one: `from_iter` wants an allocator.
     pub fn turned(&self) -> Self
         ensures { result.items.items ≡ map turned_entry self.now.items.items }
     {

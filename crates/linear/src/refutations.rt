@@ -54,6 +54,7 @@ impl<'a> Refutation<'a> {
     fn all_allowed(&self) -> bool
         ensures { result ≡ every (λ p. may_take p.1 p.0) (parts_of self.now) }
     {
+        // a `for` loop here and in `some_strict`: in `enumerate` and `all` it was not proved that a closure may ask `summand`
         for (i, literal) in self.clause.literals.iter().enumerate() {
             if !self.summand(i, *literal).allowed() {
                 return false;

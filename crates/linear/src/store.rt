@@ -29,7 +29,7 @@ impl Linear {
         }
     }
 
-    // The atom of a number, counted from 1, if it is there.
+    // The atom of a number, counted from 1, if it is there: two calls, as each such look-up is.
     pub(crate) fn atom(&self, number: u8) -> Option<&Atom>
         ensures there { is_some result ≡ within (length (table self.now).rows) number }
         ensures row { IfSome result (λ a. row a.now ≡ row_at (table self.now) number) }

@@ -74,6 +74,8 @@ impl Linear {
     }
 }
 
+// Counts, declare and admits test as those of switches only do: a few lines each, in theories that do not stand on one
+// another.
 impl Theory for Linear {
     const MOST: u8 = MOST_MEASURES;
 

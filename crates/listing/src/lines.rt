@@ -1,5 +1,7 @@
 // The lines of a listing.
 ghost use Rattle.std.specs.Prelude.{Some};
+ghost use Rattle.std.specs.Option.{option_map_or};
+ghost use Rattle.files.specs.Records.{file_number};
 ghost use Rattle.listing.specs.Texts.{refusal_text};
 
 use files::{Call, FileKind, Literals, Stop};
@@ -14,10 +16,10 @@ pub struct Line<'a> {
     pub call: Call<'a>,
 }
 
-// Where and why reading stopped: file 0 is the frame.
+// Where and why reading stopped: in one of the files, or else in the frame.
 #[derive(Drop)]
 pub struct Refusal {
-    pub file: u8,
+    pub file: Option<FileKind>,
     pub stop: Stop,
 }
 
@@ -44,6 +46,7 @@ impl fmt::Display for Hex<'_> {
 
 impl fmt::Display for Decimal<'_> {
     fn fmt<W: fmt::Write>(&self, f: &mut fmt::Formatter<W>) -> fmt::Result {
+        // An iterator for the literals of a part of a file would be longer than this loop.
         for i in 0..self.0.len() {
             if let Some(literal) = self.0.get(i) {
                 write!(f, " {literal}")?;
@@ -103,14 +106,15 @@ impl fmt::Display for Line<'_> {
     }
 }
 
+// The text is that of the report's line, which goes to a buffer of bytes, and this to a stream.
 impl fmt::Display for Refusal {
-    ghost output = { λ x. Some (refusal_text x.file x.stop) };
+    ghost output = { λ x. Some (refusal_text (option_map_or file_number x.file 0) x.stop) };
 
     fn fmt<W: fmt::Write>(&self, f: &mut fmt::Formatter<W>) -> fmt::Result {
         let code = self.stop.fault.code();
         let cause = code.cause;
         let layer = code.layer;
-        let file = self.file;
+        let file = self.file.map_or(0, FileKind::number);
         let number = self.stop.number;
         let byte = self.stop.byte;
         write!(

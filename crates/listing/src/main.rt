@@ -9,14 +9,16 @@ mod telling;
 mod words;
 
 use calculus::Theory;
+use driver::held::Held;
 use faults::{FileFault, InputCause, SessionFault};
-use files::{FileKind, Frame, Listing, Record, Stop, read_all};
+use files::{FileKind, Frame, Listing, MOST_CASE_BYTES, Record, Stop, read_all};
 use lines::{Line, Refusal};
 use piles::CongruentLinear;
+use session::Session;
 use std::io;
 use std::io::Read;
 use switches::Switches;
-use taking::{Held, Taker};
+use taking::{is_closed, take};
 use telling::Done;
 use words::BodyWords;
 
@@ -39,57 +41,6 @@ fn write_line(
     }
 }
 
-// Takes a record to the session, and writes its line.
-fn write_record<T: Theory>(
-    rt: &HostRuntime,
-    taker: &mut Taker<T>,
-    held: Held,
-    kind: FileKind,
-    record: &Record,
-) -> (Held, io::Result<Option<FileFault>>) {
-    match record.call(kind) {
-        Ok(call) => {
-            let line = Line {
-                kind,
-                number: record.number,
-                start: record.start,
-                call,
-            };
-            let (held, done) = taker.step(held, call);
-            (held, write_line(rt, line, done))
-        }
-        Err(fault) => (held, Ok(Some(fault))),
-    }
-}
-
-// A line for each record. The answer is the first record that is refused, if there is one.
-fn write_records<T: Theory>(
-    rt: &HostRuntime,
-    taker: &mut Taker<T>,
-    held: Held,
-    kind: FileKind,
-    listing: &Listing,
-) -> (Held, io::Result<Option<Stop>>) {
-    let mut held = held;
-    for record in listing.records.as_slice() {
-        let (next, written) = write_record(rt, taker, held, kind, record);
-        held = next;
-        match written {
-            Ok(None) => {}
-            Ok(Some(fault)) => {
-                let stop = Stop {
-                    number: record.number,
-                    byte: record.start,
-                    fault,
-                };
-                return (held, Ok(Some(stop)));
-            }
-            Err(error) => return (held, Err(error)),
-        }
-    }
-    (held, Ok(listing.stop))
-}
-
 // The last line of a file; says whether all of it was read.
 fn write_end(
     rt: &HostRuntime,
@@ -97,73 +48,129 @@ fn write_end(
     count: usize,
     stop: Option<Stop>,
 ) -> io::Result<bool> {
-    let file = kind.number();
     match stop {
         Some(stop) => {
-            let refusal = Refusal { file, stop };
+            let refusal = Refusal {
+                file: Some(kind),
+                stop,
+            };
             println!(rt; "{refusal}")?;
             Ok(false)
         }
         None => {
+            let file = kind.number();
             println!(rt; "file {file}: {count} records")?;
             Ok(true)
         }
     }
 }
 
-// Lists one file, and says whether all of it was read.
-fn list<T: Theory>(
-    rt: &HostRuntime,
-    taker: &mut Taker<T>,
-    held: Held,
-    kind: FileKind,
-    file: &[u8],
-) -> (Held, io::Result<bool>) {
-    let listing = match read_all(rt.alloc(), kind, file) {
-        Ok(listing) => listing,
-        Err(error) => return (held, Err(error.into())),
-    };
-    let (held, written) = write_records(rt, taker, held, kind, &listing);
-    match written {
-        Ok(stop) => (held, write_end(rt, kind, listing.records.len(), stop)),
-        Err(error) => (held, Err(error)),
-    }
+// Where the lines go, the session that the records are taken to, and room for the literals of one.
+#[derive(Drop)]
+struct Lister<'a, T> {
+    rt: &'a HostRuntime,
+    session: Session<T>,
+    room: [i8; MOST_CASE_BYTES],
 }
 
-// Lists the case, and the log if all of the case was read.
-fn list_both<T: Theory>(
-    rt: &HostRuntime,
-    taker: &mut Taker<T>,
-    frame: Frame,
-) -> (Held, io::Result<bool>) {
-    let (held, written) = list(rt, taker, Held::Nothing, FileKind::Case, frame.case);
-    match written {
-        Ok(true) => list(rt, taker, held, FileKind::Log, frame.log),
-        _ => (held, written),
+impl<T: Theory> Lister<'_, T> {
+    // Takes a record to the session, and writes its line.
+    fn write_record(
+        &mut self,
+        held: Held,
+        kind: FileKind,
+        record: &Record,
+    ) -> (Held, io::Result<Option<FileFault>>) {
+        match record.call(kind) {
+            Ok(call) => {
+                let line = Line {
+                    kind,
+                    number: record.number,
+                    start: record.start,
+                    call,
+                };
+                let (held, done) = take(&mut self.session, held, call, &mut self.room);
+                (held, write_line(self.rt, line, done))
+            }
+            Err(fault) => (held, Ok(Some(fault))),
+        }
+    }
+
+    // A line for each record. The answer is the first record that is refused, if there is one.
+    fn write_records(
+        &mut self,
+        mut held: Held,
+        kind: FileKind,
+        listing: &Listing,
+    ) -> (Held, io::Result<Option<Stop>>) {
+        for record in listing.records.as_slice() {
+            let (next, written) = self.write_record(held, kind, record);
+            held = next;
+            match written {
+                Ok(None) => {}
+                Ok(Some(fault)) => {
+                    let stop = Stop {
+                        number: record.number,
+                        byte: record.start,
+                        fault,
+                    };
+                    return (held, Ok(Some(stop)));
+                }
+                Err(error) => return (held, Err(error)),
+            }
+        }
+        (held, Ok(listing.stop))
+    }
+
+    // Lists one file, and says whether all of it was read.
+    fn list(&mut self, held: Held, kind: FileKind, file: &[u8]) -> (Held, io::Result<bool>) {
+        let listing = match read_all(self.rt.alloc(), kind, file) {
+            Ok(listing) => listing,
+            Err(error) => return (held, Err(error.into())),
+        };
+        let (held, written) = self.write_records(held, kind, &listing);
+        match written {
+            Ok(stop) => (held, write_end(self.rt, kind, listing.records.len(), stop)),
+            Err(error) => (held, Err(error)),
+        }
+    }
+
+    // Lists the case, and the log if all of the case was read.
+    fn list_both(&mut self, frame: Frame) -> (Held, io::Result<bool>) {
+        let (held, written) = self.list(Held::Nothing, FileKind::Case, frame.case);
+        match written {
+            Ok(true) => self.list(held, FileKind::Log, frame.log),
+            _ => (held, written),
+        }
     }
 }
 
 fn list_over<T: Theory + Drop>(rt: &HostRuntime, frame: Frame, name: &str) -> io::Result<()> {
     let theory = frame.theory;
     println!(rt; "theory {theory}: {name}")?;
-    let mut taker = Taker::<T>::new();
-    let (held, written) = list_both(rt, &mut taker, frame);
-    let is_closed = taker.is_closed();
-    taker.end(held);
+    let mut lister = Lister {
+        rt,
+        session: Session::<T>::new(),
+        room: [0; MOST_CASE_BYTES],
+    };
+    let (held, written) = lister.list_both(frame);
+    let Lister { session, .. } = lister;
+    let is_closed = is_closed(&session);
+    held.end(session);
     if written? && !is_closed {
         println!(rt; "none: the log ends unclosed")?;
     }
     Ok(())
 }
 
-// A refusal before any file is read.
+// A refusal before any file is read, at number and byte 0.
 fn refuse_frame(rt: &HostRuntime, fault: FileFault) -> io::Result<()> {
     let stop = Stop {
         number: 0,
         byte: 0,
         fault,
     };
-    let refusal = Refusal { file: 0, stop };
+    let refusal = Refusal { file: None, stop };
     println!(rt; "{refusal}")
 }
 

@@ -1,78 +1,82 @@
-// Takes the calls of a case and its log to a session.
+// Takes the calls of a case and its log to a session, and says what each did.
 use crate::telling::Done;
 use calculus::Theory;
-use faults::SessionFault;
+use driver::held::Held;
+use driver::records::order_of;
+use faults::{InputCause, SessionFault};
 use files::Call;
+use session::Session;
 use session::phase::Phase;
-use session::{Conflict, Permit, Session};
+use tables::clause::Clause;
 
-mod analysing;
-mod drafting;
-mod searching;
-
-// What the session gave out and did not get back yet.
-pub enum Held {
-    Nothing,
-    Draft(Permit),
-    Analysis(Conflict),
+pub fn is_closed<T: Theory>(session: &Session<T>) -> bool {
+    matches!(
+        session.phase(),
+        Phase::Impossible | Phase::Possible | Phase::Undecided
+    )
 }
 
-// A session, with the denominator of its values.
-#[derive(Drop)]
-pub struct Taker<T> {
-    session: Session<T>,
-    denominator: u32,
+// Takes one call: what is held goes in, and what is held then comes out. No record of a case or a log writes more
+// literals than there is room for.
+pub fn take<T: Theory>(
+    session: &mut Session<T>,
+    held: Held,
+    call: Call,
+    room: &mut [i8],
+) -> (Held, Result<Done, SessionFault>) {
+    let Some(order) = order_of(call, room) else {
+        return (held, Err(SessionFault::Input(InputCause::BadClause)));
+    };
+    let (held, taken) = held.step(session, order);
+    (held, taken.map(|()| done_by(session, call)))
 }
 
-impl<T: Theory> Taker<T> {
-    pub fn new() -> Taker<T> {
-        Taker {
-            session: Session::new(),
-            denominator: 1,
+// What a call did that was taken, seen on the session that it left.
+fn done_by<T: Theory>(session: &Session<T>, call: Call) -> Done {
+    match call {
+        Call::Counts { .. } => Done::Counted,
+        Call::Declare(_) => Done::Declared,
+        Call::Admit(_) => Done::Admitted(
+            usize::from(session.switches()) + usize::from(session.theory().atoms()),
+        ),
+        Call::Rule(_) => Done::Stored(session.store().len()),
+        Call::Seal(_) => Done::Sealed,
+        Call::Lemma { .. } => Done::Vouched(session.store().len()),
+        Call::Choose(_) | Call::Set { .. } | Call::Propagate { .. } | Call::Read(_) => {
+            entered(session)
         }
-    }
-
-    pub fn is_closed(&self) -> bool {
-        match self.session.phase() {
-            Phase::Impossible | Phase::Possible | Phase::Undecided => true,
-            _ => false,
-        }
-    }
-
-    // Takes one call: what is held goes in, and what is held then comes out.
-    pub fn step(&mut self, held: Held, call: Call) -> (Held, Result<Done, SessionFault>) {
-        match (held, call) {
-            (Held::Nothing, Call::Counts { switches, measures }) => self.counts(switches, measures),
-            (Held::Draft(permit), Call::Declare(body)) => {
-                let done = self.declare(&permit, body);
-                (Held::Draft(permit), done)
-            }
-            (Held::Draft(permit), Call::Rule(literals)) => {
-                let done = self.rule(&permit, literals);
-                (Held::Draft(permit), done)
-            }
-            (Held::Draft(permit), Call::Seal(denominator)) => self.seal(permit, denominator),
-            (Held::Nothing, Call::Conflict(clause)) => self.conflict(clause),
-            (Held::Analysis(conflict), Call::Resolve(number)) => {
-                let done = self.resolve(&conflict, number);
-                (Held::Analysis(conflict), done)
-            }
-            (Held::Analysis(conflict), Call::Jump(literal)) => self.jump(conflict, literal),
-            (Held::Analysis(conflict), Call::Concede) => self.concede(conflict),
-            (Held::Analysis(conflict), Call::Abandon) => self.abandon(conflict),
-            (held, call) => (held, self.search(call)),
-        }
+        Call::Conflict(_) => Done::Opened(open_clause(session)),
+        Call::Resolve(_) => Done::Resolved(open_clause(session)),
+        Call::Jump(_) => jumped(session),
+        Call::Concede => Done::Impossible,
+        Call::Claim => Done::Possible(session.arrangement()),
+        Call::Abandon => Done::Undecided,
     }
 }
 
-impl<T: Theory + Drop> Taker<T> {
-    // Ends the session with what is held.
-    pub fn end(self, held: Held) {
-        let Taker { session, .. } = self;
-        match held {
-            Held::Nothing => {}
-            Held::Draft(_) => {}
-            Held::Analysis(conflict) => session.leave(conflict),
-        }
+// What has just entered the trail, as its last entry.
+fn entered<T: Theory>(session: &Session<T>) -> Done {
+    match session.trail().entries().last() {
+        Some(entry) => Done::Entered {
+            entry: *entry,
+            denominator: session.arrangement().denominator(),
+        },
+        None => Done::Nothing,
     }
+}
+
+// The clause just learnt, and the last entry of the trail.
+fn jumped<T: Theory>(session: &Session<T>) -> Done {
+    match session.trail().entries().last() {
+        Some(entry) => Done::Jumped {
+            clause: session.store().len(),
+            entry: *entry,
+        },
+        None => Done::Nothing,
+    }
+}
+
+// The clause under analysis.
+fn open_clause<T: Theory>(session: &Session<T>) -> Clause {
+    Clause::of(session.analysed()).unwrap_or_default()
 }

@@ -111,16 +111,14 @@ impl fmt::Display for Arranged<'_> {
     fn fmt<W: fmt::Write>(&self, f: &mut fmt::Formatter<W>) -> fmt::Result {
         let denominator = self.0.denominator();
         let mut sign = "";
-        let mut number = 0u32;
-        for yes in self.0.switches() {
-            number = number.saturating_add(1);
+        for (i, yes) in self.0.switches().iter().enumerate() {
+            let number = i + 1;
             let answer = if *yes { "yes" } else { "no" };
             write!(f, "{sign} s{number} {answer}")?;
             sign = ",";
         }
-        number = 0;
-        for numerator in self.0.numerators() {
-            number = number.saturating_add(1);
+        for (i, numerator) in self.0.numerators().iter().enumerate() {
+            let number = i + 1;
             write!(f, "{sign} m{number} = {numerator}/{denominator}")?;
             sign = ",";
         }

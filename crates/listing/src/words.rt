@@ -1,5 +1,7 @@
 // Atoms and applications in words, from the bodies that wrote them.
 use files::Call;
+use numerals::signed_word;
+use rows::Relation;
 use std::fmt;
 
 // The words of the body that a call hands to the theory, if it does.
@@ -40,59 +42,42 @@ impl fmt::Display for Term {
     }
 }
 
-// The signed number of the four bytes from a place on, or 0 where there are fewer.
-fn word(body: &[u8], at: usize) -> i32 {
-    if at < body.len() && body.len() - at >= 4 {
-        numerals::signed_word(body[at], body[at + 1], body[at + 2], body[at + 3])
-    } else {
-        0
-    }
-}
-
 impl fmt::Display for AtomWords<'_> {
     fn fmt<W: fmt::Write>(&self, f: &mut fmt::Formatter<W>) -> fmt::Result {
-        let [relation, count, ..] = self.0 else {
+        let [relation, count, terms @ .., a, b, c, d] = self.0 else {
             return Ok(());
         };
         if *count == 0 {
             write!(f, "0")?;
         }
-        for i in 0..*count {
-            let at = 2 + 5 * usize::from(i);
-            if at < self.0.len() {
-                let term = Term {
-                    first: i == 0,
-                    measure: self.0[at],
-                    coefficient: word(self.0, at + 1),
-                };
-                write!(f, "{term}")?;
-            }
+        let (terms, _) = terms.as_chunks::<5>();
+        for (i, [measure, a, b, c, d]) in terms.iter().enumerate() {
+            let term = Term {
+                first: i == 0,
+                measure: *measure,
+                coefficient: signed_word(*a, *b, *c, *d),
+            };
+            write!(f, "{term}")?;
         }
-        match *relation {
-            1 => write!(f, " < ")?,
-            2 => write!(f, " <= ")?,
-            _ => write!(f, " = ")?,
-        }
-        let constant = word(self.0, 2 + 5 * usize::from(*count));
-        write!(f, "{constant}")
+        let sign = match Relation::try_from(*relation) {
+            Ok(Relation::Less) => "<",
+            Ok(Relation::AtMost) => "<=",
+            _ => "=",
+        };
+        let constant = signed_word(*a, *b, *c, *d);
+        write!(f, " {sign} {constant}")
     }
 }
 
 impl fmt::Display for ApplicationWords<'_> {
     fn fmt<W: fmt::Write>(&self, f: &mut fmt::Formatter<W>) -> fmt::Result {
-        let body = self.0;
-        let n = body.len();
-        if n < 5 {
+        let [_, function, _, first, more @ .., result] = self.0 else {
             return Ok(());
-        }
-        let function = body[1];
-        let first = body[3];
+        };
         write!(f, "f{function}(m{first}")?;
-        for i in 4..n - 1 {
-            let measure = body[i];
+        for measure in more {
             write!(f, ", m{measure}")?;
         }
-        let result = body[n - 1];
         write!(f, ") = m{result}")
     }
 }

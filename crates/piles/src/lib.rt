@@ -15,7 +15,7 @@ pub type CongruentLinear = Congruence<Linear>;
 // Congruence over congruence over linear.
 pub type TwiceCongruent = Congruence<CongruentLinear>;
 
-// Every run over congruence over linear is sound.
+// Every run over congruence over linear is sound. This and the next are the law at two types.
 pub fn congruent_linear_sound()
     ensures { EveryRunSound congruent_linear }
 {
@@ -56,8 +56,8 @@ mod tests {
         let mut v = Vec::new(heap);
         v.push(relation)?;
         v.push(count)?;
-        for i in 0..count {
-            v.push(i.wrapping_add(1))?;
+        for measure in 1..=count {
+            v.push(measure)?;
             v.extend_from_slice(&coefficient.to_be_bytes())?;
         }
         v.extend_from_slice(&constant.to_be_bytes())?;

@@ -12,10 +12,7 @@ pub fn draft(session: &mut Session<Switches>) -> Result<(), SessionFault> {
     let permit = session.counts(1, 0)?;
     session.rule(&permit, &[1])?;
     session.rule(&permit, &[-1])?;
-    match session.seal(permit, 1) {
-        Ok(()) => Ok(()),
-        Err((_, fault)) => Err(fault),
-    }
+    session.seal(permit, 1).map_err(|(_, fault)| fault)
 }
 
 // Analyses a clause that is false, by one resolution, and concedes; else gives up.

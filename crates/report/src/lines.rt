@@ -1,5 +1,5 @@
 // The lines of a report, each written to the front of what is left of the buffer, in which there must be room for the
-// longest line of its kind.
+// longest line of its kind. That each gets the rest of the buffer, from the middle, is a rule of the project.
 ghost use Rattle.std.specs.Prelude.{◌*◌, ◌<◌, ◌≤◌, length};
 ghost use Rattle.calculus.specs.Limits.{most_numbers, most_measures};
 ghost use Rattle.claims.specs.Views.{arrangement_of};
@@ -49,7 +49,8 @@ fn write_measure(rest: &mut [u8], number: usize, numerator: i32) -> usize
     at
 }
 
-// A line for each switch, in order.
+// A line for each switch, in order. The loop over the measures is its like: with the line writer as a parameter the
+// contract on what a closure writes to the rest of the buffer would be longer than the two loops.
 fn write_switches(rest: &mut [u8], switches: &[bool]) -> usize
     requires { (length switches.now ≤ most_numbers) × (9 * length switches.now ≤ length rest.old) }
     ensures wrote { Wrote (switch_lines 1 switches.now) rest.old result rest.new }
@@ -85,6 +86,7 @@ pub(crate) fn write_arrangement(rest: &mut [u8], arrangement: &Arrangement) -> u
     at
 }
 
+// The file is a number, as in the outcome.
 pub(crate) fn write_refused(rest: &mut [u8], file: u8, stop: &Stop) -> usize
     requires { 136 ≤ length rest.old }
     ensures { Wrote (stop_line file stop.now) rest.old result rest.new }

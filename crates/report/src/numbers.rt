@@ -12,7 +12,8 @@ pub(crate) fn write_bytes(rest: &mut [u8], text: &[u8]) -> usize
     n
 }
 
-// The decimal digits of `n`, where there is room for just these.
+// The decimal digits of `n`, where there is room for just these. By the library they would go to a text of fixed
+// capacity first and then be copied, and each of the two could be refused.
 fn write_digits(rest: &mut [u8], n: usize) -> usize
     requires { length (decimal n) ≤ length rest.old }
     ensures { Wrote (decimal n) rest.old result rest.new }
@@ -35,7 +36,7 @@ pub(crate) fn write_number(rest: &mut [u8], n: usize) -> usize
     write_digits(rest, n)
 }
 
-// A number of three digits at most.
+// A number of three digits at most: the bound by which a line of a switch or a measure is short.
 pub(crate) fn write_small(rest: &mut [u8], n: usize) -> usize
     requires { (n < 1000) × (3 ≤ length rest.old) }
     ensures wrote { Wrote (decimal n) rest.old result rest.new }

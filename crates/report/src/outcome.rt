@@ -12,7 +12,8 @@ use files::Stop;
 pub const LEAST_BUFFER: usize = 2048;
 
 // A verdict, or the file, by its number, in which something is refused, and where. Files are numbered from 1; 0 is none.
-#[derive(Drop)]
+// The file is a number, since a type of the two files would ask more of callers than any number does.
+#[derive(Clone, Drop)]
 pub enum Outcome {
     Impossible,
     Possible(Arrangement),
@@ -21,7 +22,8 @@ pub enum Outcome {
 }
 
 impl Outcome {
-    // Writes the report to the front of the buffer, and says how many bytes it took: none where the buffer is too short.
+    // Writes the report to the front of the buffer, and says how many bytes it took: none where the buffer is too short,
+    // since that is the number which the C interface gives.
     pub fn write(&self, report: &mut [u8]) -> usize
         ensures { Written (lines (outcome_of self.now)) report.old result report.new }
     {

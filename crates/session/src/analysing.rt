@@ -3,9 +3,9 @@ ghost use Rattle.std.specs.Prelude.{◌≡◌, ◌<◌, Bool, true, ◌&&◌, �
 ghost use Rattle.calculus.specs.Calls.Call.{Conflict as to_conflict, Resolve as to_resolve, Jump as to_jump, Concede as to_concede, Abandon as to_abandon};
 ghost use Rattle.calculus.specs.Literals.{proper};
 ghost use Rattle.calculus.specs.Trails.{false_at};
-ghost use Rattle.calculus.specs.Steps.{has_room, forced, split};
+ghost use Rattle.calculus.specs.Steps.{has_room, resumed, forced, split};
 ghost use Rattle.tables.specs.Tables.{trail_of};
-ghost use Rattle.session.specs.Views.{view, Steps, Spends};
+ghost use Rattle.session.specs.Views.{answer_of, back_of, view, Steps, Spends};
 
 use super::phase::{Kind, Phase};
 use super::{Conflict, Session};
@@ -68,13 +68,7 @@ impl<T: Theory> Session<T> {
     pub fn jump(&mut self, conflict: Conflict, literal: i8) -> Result<(), (Conflict, SessionFault)>
         ensures { Spends T.Theory.kind T.Theory.model self.old (to_jump literal) conflict result self.new }
     {
-        match self.backjump(literal) {
-            Ok(()) => {
-                let Conflict(_) = conflict;
-                Ok(())
-            }
-            Err(fault) => Err((conflict, fault)),
-        }
+        conflict.spent(self.backjump(literal))
     }
 
     pub(crate) fn backjump(&mut self, literal: i8) -> Result<(), SessionFault>
@@ -118,6 +112,18 @@ impl<T: Theory> Session<T> {
         0 < top && self.trail.false_at(literal) == top
     }
 
+    // Stores the analysed clause, and goes back to the level. The room for it is handed on from the jump through this and
+    // the two below: no ghost field can say it of a session.
+    fn resume(&mut self, level: u8)
+        requires { has_room T.Theory.kind (view T.Theory.kind T.Theory.model self.old) ≡ true }
+        ensures { view T.Theory.kind T.Theory.model self.new ≡ resumed T.Theory.kind (view T.Theory.kind T.Theory.model self.old) level }
+    {
+        let learnt = mem::take(&mut self.analysed);
+        self.store.push(learnt, false);
+        self.trail.keep_up_to(level);
+        self.phase = Phase::Searching;
+    }
+
     // Back to the level, where the literal follows from the analysed clause.
     fn force(&mut self, literal: i8, level: u8)
         requires room { has_room T.Theory.kind (view T.Theory.kind T.Theory.model self.old) ≡ true }
@@ -125,16 +131,12 @@ impl<T: Theory> Session<T> {
         requires below_denial { level < false_at (trail_of self.old.trail) literal }
         ensures { view T.Theory.kind T.Theory.model self.new ≡ forced T.Theory.kind (view T.Theory.kind T.Theory.model self.old) literal level }
     {
-        let number = self.store.len() + 1;
-        let learnt = mem::take(&mut self.analysed);
-        self.store.push(learnt, false);
-        self.trail.keep_up_to(level);
+        self.resume(level);
         self.trail.push(Entry::Literal {
             literal,
             level,
-            origin: Origin::Propagated(number),
+            origin: Origin::Propagated(self.store.len()),
         });
-        self.phase = Phase::Searching;
     }
 
     // Back to the level, behind which the literal is chosen.
@@ -144,19 +146,16 @@ impl<T: Theory> Session<T> {
         requires below_denial { level < false_at (trail_of self.old.trail) literal }
         ensures { view T.Theory.kind T.Theory.model self.new ≡ split T.Theory.kind (view T.Theory.kind T.Theory.model self.old) literal level }
     {
-        let learnt = mem::take(&mut self.analysed);
-        self.store.push(learnt, false);
-        self.trail.keep_up_to(level);
-        let next = self.trail.choices() + 1;
+        self.resume(level);
         self.trail.push(Entry::Literal {
             literal,
-            level: next,
+            level: self.trail.choices() + 1,
             origin: Origin::Chosen,
         });
-        self.phase = Phase::Searching;
     }
 
-    // Closes as impossible, where the clause is false without any choice.
+    // Closes as impossible, where the clause is false without any choice. A session closes by two assignments, here and
+    // twice more: the contract of a function for them would be longer.
     pub fn concede(&mut self, conflict: Conflict) -> Result<(), (Conflict, SessionFault)>
         ensures { Spends T.Theory.kind T.Theory.model self.old to_concede conflict result self.new }
     {
@@ -188,12 +187,21 @@ impl<T: Theory> Session<T> {
     pub fn abandon_conflict(&mut self, conflict: Conflict) -> Result<(), (Conflict, SessionFault)>
         ensures { Spends T.Theory.kind T.Theory.model self.old to_abandon conflict result self.new }
     {
-        match self.abandon() {
+        conflict.spent(self.abandon())
+    }
+}
+
+impl Conflict {
+    // Spent where the call is accepted; a refusal gives it back.
+    fn spent(self, done: Result<(), SessionFault>) -> Result<(), (Conflict, SessionFault)>
+        ensures { result ≡ back_of self (answer_of done) }
+    {
+        match done {
             Ok(()) => {
-                let Conflict(_) = conflict;
+                let Conflict(_) = self;
                 Ok(())
             }
-            Err(fault) => Err((conflict, fault)),
+            Err(fault) => Err((self, fault)),
         }
     }
 }

@@ -42,6 +42,7 @@ impl<T: Theory> Session<T> {
         let arrangement = self.arrangement();
         self.theory
             .admits(arrangement.numerators(), self.counts.denominator())?;
+        // it closes by two assignments, as concede does
         self.phase = Phase::Possible;
         self.analysed = Clause::empty();
         Ok(arrangement)

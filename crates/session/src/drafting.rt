@@ -3,9 +3,11 @@ ghost use Rattle.std.specs.Prelude.{◌≡◌};
 ghost use Rattle.calculus.specs.Calls.Call.{Counts as to_count, Declare as to_declare, Admit as to_admit, Rule as to_rule, Seal as to_seal};
 ghost use Rattle.session.specs.Views.{Steps, Spends};
 
+use super::counts::MOST_NUMBERS;
 use super::phase::{Kind, Phase};
 use super::{Permit, Session};
 use calculus::Theory;
+use calculus::limits::MOST_DENOMINATOR;
 use faults::{InputCause, SessionFault, StateCause};
 use tables::clause::Clause;
 use tables::literals::{are_proper, is_clause_like};
@@ -18,7 +20,7 @@ impl<T: Theory> Session<T> {
         if !self.phase.serves(Kind::Counts) {
             return Err(SessionFault::State(StateCause::WrongPhase));
         }
-        if switches > 127 {
+        if switches > MOST_NUMBERS {
             return Err(SessionFault::Input(InputCause::OutOfRange));
         }
         self.theory.counts(measures)?;
@@ -60,7 +62,7 @@ impl<T: Theory> Session<T> {
         if !self.phase.serves(Kind::Seal) {
             return Err((permit, SessionFault::State(StateCause::WrongPhase)));
         }
-        if denominator == 0 || denominator > 1_000_000 {
+        if !(1..=MOST_DENOMINATOR).contains(&denominator) {
             return Err((permit, SessionFault::Input(InputCause::OutOfRange)));
         }
         self.counts = self.counts.with_denominator(denominator);
@@ -68,7 +70,8 @@ impl<T: Theory> Session<T> {
         Ok(())
     }
 
-    // Stores a clause that must be met.
+    // Stores a clause that must be met. Its tests are those of a lemma: with the two behind one function, five goals of
+    // theirs stayed open.
     pub fn rule(&mut self, _permit: &Permit, literals: &[i8]) -> Result<(), SessionFault>
         ensures { Steps T.Theory.kind T.Theory.model self.old (to_rule literals.now) result self.new }
     {

@@ -34,7 +34,7 @@ pub enum Kind {
 }
 
 impl Phase {
-    // Whether a call of this kind serves in this phase.
+    // Whether a call of this kind serves in this phase. Each call decides it in place, as a rule of the project wants.
     pub fn serves(self, kind: Kind) -> bool
         ensures { Serves kind self result }
     {

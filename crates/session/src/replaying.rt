@@ -9,7 +9,8 @@ ghost use Rattle.session.specs.Views.{view};
 use super::{Conflict, Permit, Session};
 use calculus::Theory;
 
-// A call with its arguments.
+// A call with its arguments. It is the like of the call that a record writes, but for its literals, which are bytes of
+// the file there. One type over both would carry a parameter through every clause that names a call, and say no more.
 #[derive(Clone, Copy)]
 pub enum Order<'a> {
     Counts(u8, u8),
@@ -108,8 +109,8 @@ impl<T: Theory> Session<T> {
     }
 }
 
-// Makes a session and carries out the calls. It stands for the state that the calculus gives, and that state keeps the
-// guarantees.
+// Makes a session and carries out the calls, with tokens of its own: what hands tokens out stands above. It stands for
+// the state that the calculus gives, and that state keeps the guarantees.
 pub fn replay<T: Theory + Drop>(orders: &[Order]) -> Session<T>
     ensures led { view T.Theory.kind T.Theory.model result ≡ run T.Theory.kind (map call_of orders.now) }
     ensures sound { Guarantees T.Theory.kind (view T.Theory.kind T.Theory.model result) }

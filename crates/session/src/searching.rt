@@ -36,7 +36,7 @@ fn enter_value(trail: &mut Trail, measure: u8, numerator: i32)
 }
 
 impl<T: Theory> Session<T> {
-    // Stores a clause that the theory vouches for.
+    // Stores a clause that the theory vouches for. What it tests before that is said at the rule.
     pub fn lemma(&mut self, literals: &[i8], hint: &[u8]) -> Result<(), SessionFault>
         ensures { Steps T.Theory.kind T.Theory.model self.old (to_lemma literals.now hint.now) result self.new }
     {
@@ -63,7 +63,7 @@ impl<T: Theory> Session<T> {
         Ok(())
     }
 
-    // Enters a literal as a decision.
+    // Enters a literal as a decision. Propagate tests the number alike, and read asks the opposite: two lines each.
     pub fn choose(&mut self, literal: i8) -> Result<(), SessionFault>
         ensures { Steps T.Theory.kind T.Theory.model self.old (to_choose literal) result self.new }
     {

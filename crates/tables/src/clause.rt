@@ -12,12 +12,13 @@ mod resolving;
 pub const MOST_LITERALS: usize = 16;
 
 // A clause of at most 16 literals.
-#[derive(Default, Drop)]
+#[derive(Clone, Default, Drop)]
 pub struct Clause {
     literals: ArrayVec<i8, MOST_LITERALS>,
 }
 
 impl Clause {
+    // Without literals. The derived default has no clause that says so.
     pub fn empty() -> Clause
         ensures { literals_of result ≡ [] }
     {
@@ -26,7 +27,7 @@ impl Clause {
         }
     }
 
-    // The clause of these literals, unless they are more than 16.
+    // The clause of these literals, unless they are more than 16: an error, as `try_from` wants one, would say no more.
     pub fn of(literals: &[i8]) -> Option<Clause>
         ensures { Makes literals.now result }
     {
@@ -34,6 +35,7 @@ impl Clause {
         Some(Clause { literals })
     }
 
+    // Its literals. What takes any slice has to ask that it is no longer.
     pub fn literals(&self) -> &[i8]
         ensures same { result.now ≡ literals_of self.now }
         ensures few { length result.now ≤ 16 }

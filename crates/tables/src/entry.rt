@@ -25,7 +25,7 @@ pub enum Entry {
     },
 }
 
-// What fills the places of a trail that are not used.
+// What fills the places of a trail that are not used. No case without fields could be the derived one.
 impl Default for Entry {
     fn default() -> Entry {
         Entry::Value {

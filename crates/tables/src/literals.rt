@@ -8,6 +8,7 @@ ghost use Rattle.calculus.specs.Steps.{literal_on};
 use crate::clause::MOST_LITERALS;
 use calculus::limits;
 
+// By hand, so that a clause ties `==` to the calculus' word.
 pub fn is_same(a: i8, b: i8) -> bool
     ensures { result ≡ same a b }
 {
@@ -40,6 +41,7 @@ pub fn are_proper(literals: &[i8]) -> bool
     literals.iter().all(|k| is_proper(*k))
 }
 
+// A line, as the like of it in theories, which do not stand on the tables.
 pub fn are_within(literals: &[i8], most: usize) -> bool
     ensures { result ≡ every (λ l. within most (number l)) literals.now }
 {
@@ -49,7 +51,7 @@ pub fn are_within(literals: &[i8], most: usize) -> bool
 pub fn holds_literal(literals: &[i8], literal: i8) -> bool
     ensures { result ≡ holds_literal literal literals.now }
 {
-    literals.iter().any(|k| is_same(*k, literal))
+    literals.contains(&literal)
 }
 
 pub fn has_number(literals: &[i8], n: u8) -> bool

@@ -10,7 +10,7 @@ use calculus::limits::is_within;
 const MOST_CLAUSES: usize = 250;
 
 // A stored clause, and whether it is a rule.
-#[derive(Default, Drop)]
+#[derive(Clone, Default, Drop)]
 pub struct Row {
     clause: Clause,
     rule: bool,
@@ -73,7 +73,8 @@ impl Store {
         self.rows.as_slice()
     }
 
-    // The literals of the clause of this number; none where there is no such clause.
+    // The literals of the clause of this number; none behind the last, and for 0 those of the first, as the definition has
+    // it. Each look-up by a number from 1 is two calls of the library: a function for them would be no shorter.
     pub fn literals(&self, number: u8) -> &[i8]
         ensures same { result.now ≡ clause_at (store_of self.now) number }
         ensures few { length result.now ≤ 16 }

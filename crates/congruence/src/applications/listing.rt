@@ -24,7 +24,7 @@ impl Applications {
         !self.rows.is_full()
     }
 
-    // The application of this number, counted from 1.
+    // The application of this number, counted from 1: two calls, as each such look-up is.
     pub fn get(&self, number: u8) -> Option<&Application>
         ensures { MatchOption result (within (length (applications_of self.now)) number ≡ false) (λ a. (within (length (applications_of self.now)) number ≡ true) × (application_of a.now ≡ nth no_application (applications_of self.now) number)) }
     {

@@ -3,7 +3,7 @@ ghost use Rattle.calculus.specs.Lists.{every};
 ghost use Rattle.calculus.specs.Limits.{most_numbers, most_denominator, within};
 ghost use Rattle.calculus.specs.Literals.{number as number_of};
 
-use super::Counts;
+use super::{Counts, MOST_NUMBERS};
 use calculus::limits::is_within;
 use tables::literals::are_within;
 
@@ -21,7 +21,7 @@ impl Counts {
         }
     }
 
-    // With this many switches, and no atoms yet.
+    // With this many switches, and no atoms yet. A struct with a ghost field is not made from another by `..`.
     pub fn with_switches(self, switches: u8) -> Counts
         requires { nat_le switches most_numbers ≡ true }
         ensures switches { result.switches ≡ switches }
@@ -80,7 +80,7 @@ impl Counts {
     pub fn has_room(self) -> bool
         ensures { result ≡ nat_lt self.numbers most_numbers }
     {
-        self.numbers < 127
+        self.numbers < MOST_NUMBERS
     }
 
     // The number is in use.

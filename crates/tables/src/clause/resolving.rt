@@ -19,7 +19,7 @@ impl Clause {
         i16::from(k) != -i16::from(literal) && !self.holds(k)
     }
 
-    // The clause of those literals that pass the test.
+    // The clause of those literals that pass the test, pushed one by one: `from_iter` wants an allocator.
     fn of_those<F: Fn(i8) -> bool>(literals: &[i8], test: F) -> Clause
         requires few { length literals.now ≤ 16 }
         requires callable { F.IsAlwaysCallable test }

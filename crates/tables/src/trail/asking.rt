@@ -6,7 +6,8 @@ ghost use Rattle.tables.specs.Tables.{trail_of};
 use super::Trail;
 use crate::entry::Entry;
 
-// The first of the entries that passes the test.
+// The first of the entries that passes the test. What is asked of a test given as a closure, and what its answers tell,
+// is the clause itself, here and at its like.
 fn first<F: Fn(Entry) -> bool>(entries: &[Entry], test: F) -> Option<Entry>
     requires { F.IsAlwaysCallable test }
     ensures { (p : Content → Bool) → ((e : Entry) (b : Bool) → F.post test e b → b ≡ p (entry_of e).content) → Finds p (entries_of entries.now) result }
@@ -113,8 +114,7 @@ impl Trail {
     pub fn reason_of_denial(&self, literal: i8) -> Option<u8>
         ensures { MatchOption result (reason (entry_for (affirms (neg_ℤ literal)) (trail_of self.now)).content ≡ 0) (λ c. (0 < c) × (c ≡ reason (entry_for (affirms (neg_ℤ literal)) (trail_of self.now)).content)) }
     {
-        let reason = self.find_denial(literal)?.reason()?;
-        if reason == 0 { None } else { Some(reason) }
+        self.find_denial(literal)?.reason().filter(|c| *c != 0)
     }
 
     // The values made the literal false.

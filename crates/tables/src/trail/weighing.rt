@@ -58,7 +58,7 @@ impl Trail {
             .all(|k| self.denial_was_read(*k))
     }
 
-    // The numerators of the first measures, in their order.
+    // The numerators of the first measures, in their order. They are pushed one by one: `from_iter` wants an allocator.
     pub fn numerators(&self, measures: u8) -> ArrayVec<i32, MOST_MEASURES>
         requires { measures ≤ 16 }
         ensures { result.items ≡ map (λ j. value j (trail_of self.now)) (range_with_len 1 measures) }

@@ -8,10 +8,10 @@ use Rattle.session.proofs.Reaching.{one_more}
 use Rattle.driver.proofs.replaying.replay.Goals as goal
 
 pub loop-order-preserved : goal.loop-order-preserved
-loop-order-preserved g c = (
+loop-order-preserved g c = let n = c.step-next.ensures c.loop-order.invariant.2 in (
   omega arith,
-  one_more g.T.Theory.kind c.args.orders.now c.loop-order.order-index _ _ (Counts 0 0) c.loop-order-test.true c.loop-order.invariant.1 c.step-next.ensures.0.1,
-  c.step-next.ensures.1,
+  one_more g.T.Theory.kind c.args.orders.now c.loop-order.order-index _ _ (Counts 0 0) c.loop-order-test.true c.loop-order.invariant.1 n.0.1,
+  n.1,
 )
 
 pub returns : goal.returns

@@ -2,10 +2,10 @@ use Rattle.std.proofs.Common.{◌≡◌, ◌≤◌, take, drop}
 use Rattle.rows.specs.Bodies.{entries_in, in_order}
 use Rattle.linear.proofs.bodies.entries.Given as goal
 
-abbrev pub invariant-loop-i : goal.invariant-loop-i
-invariant-loop-i l = record {
-  rest : in_order l.measures l.last (drop l.i (entries_in l.body l.count)) ≡ in_order l.measures 0 (entries_in l.body l.count);
-  read : l.entries.items.items ≡ take l.i (entries_in l.body l.count);
-  rising : l.i ≤ l.last;
+abbrev pub invariant-loop-chunk : goal.invariant-loop-chunk
+invariant-loop-chunk l = record {
+  rest : in_order l.measures l.last (drop l.chunk-index (entries_in l.body l.count)) ≡ in_order l.measures 0 (entries_in l.body l.count);
+  read : l.entries.items.items ≡ take l.chunk-index (entries_in l.body l.count);
+  rising : l.chunk-index ≤ l.last;
   known : l.last ≤ l.measures;
 }

@@ -1,10 +1,12 @@
+use Rattle.std.proofs.Common.{ap}
+use Rattle.calculus.specs.States.{State}
 use Rattle.calculus.specs.Trails.Origin.{Chosen}
 use Rattle.tables.specs.Tables.{trail_of}
 use Rattle.tables.proofs.Dropping.{enters_again}
 use Rattle.session.proofs.Session.force.Goals as goal
 
-pub push-requires-2 : goal.push-requires-2
-push-requires-2 g c =
+pub push-requires-clause-off_trail : goal.push-requires-clause-off_trail
+push-requires-clause-off_trail g c =
     let t = c.args.self.now.trail in
-    let e = enters_again (trail_of t) (trail_of c.keep_up_to.new.self) c.args.literal c.args.level Chosen t.tidied c.ranges.literal c.requires.proper_literal c.requires.below_denial c.keep_up_to.ensures in
-    record { in_range = e.0; off_trail = e.1 }
+    let kept = ap (λ (s : State g.T.Theory.kind). s.trail) c.resume.ensures in
+    (enters_again (trail_of t) (trail_of c.resume.new.self.trail) c.args.literal c.args.level Chosen t.tidied c.ranges.literal c.requires.proper_literal c.requires.below_denial kept).1
