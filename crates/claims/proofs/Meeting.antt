@@ -1,5 +1,5 @@
 -- A literal by its switch.
-use Rattle.std.proofs.Common.{◌≡◌, ℕ, zero, suc, ◌-◌, ◌≤◌, Bool, false, cond, not, ◌&&◌, ltb, List, map, ℤ, pos, negsuc, sym, refl, ap, ◌∙◌, arith}
+use Rattle.std.proofs.Common.{◌≡◌, ℕ, zero, suc, ◌-◌, ◌≤◌, Bool, false, cond, ◌&&◌, ltb, List, map, ℤ, pos, sym, refl, ap, ◌∙◌, arith}
 use Rattle.std.specs.List.{range_with_len}
 use Rattle.std.proofs.lemmas.List.FromFn.{get_or-map-range_with_len}
 use Rattle.std.proofs.lemmas.Bool.{lt-ltb, le-leb}
@@ -8,16 +8,12 @@ use Rattle.calculus.specs.Literals.{number, signed}
 use Rattle.calculus.specs.Kinds.{Kind}
 use Rattle.calculus.specs.Trails.{Entry, on_trail, numerators}
 use Rattle.calculus.specs.States.{holds}
+use Rattle.calculus.proofs.Testing.{signed_ap}
 use Rattle.claims.specs.Arranging.{arrangement}
 
 -- the literal is true where the numbers that the trail affirms are
 abbrev pub affirmed_by : List Entry → ℤ → Bool
 affirmed_by t l = signed l (λ n. ltb 0 n && on_trail (pos n) t)
-
--- only the literal's own number matters
-signed_by : (l : ℤ) (p q : ℕ → Bool) → p (number l) ≡ q (number l) → signed l p ≡ signed l q
-signed_by (pos n) p q e = e
-signed_by (negsuc n) p q e = ap not e
 
 switch_at : (p : ℕ → Bool) (w n : ℕ) → n ≤ w → (ltb 0 n && p n) ≡ nth false (map p (range_with_len 1 w)) n
 switch_at p w zero h = refl
@@ -25,4 +21,4 @@ switch_at p w (suc n) h = ap (λ b. b && p (suc n)) (lt-ltb 0 (suc n) (omega ari
 
 module _ (K : Kind) (m : K.Model) (w d : ℕ) (t : List Entry) (l : ℤ) where
   pub by_switch : number l ≤ w → affirmed_by t l ≡ signed l (holds K m w (arrangement K m w d t))
-  by_switch h = signed_by l (λ n. ltb 0 n && on_trail (pos n) t) (holds K m w (arrangement K m w d t)) (switch_at (λ n. on_trail (pos n) t) w (number l) h ∙ sym (ap (λ b. cond b (nth false (map (λ n. on_trail (pos n) t) (range_with_len 1 w)) (number l)) (K.truth m (number l - w) (numerators K m t) d)) (le-leb (number l) w h)))
+  by_switch h = signed_ap l (λ n. ltb 0 n && on_trail (pos n) t) (holds K m w (arrangement K m w d t)) (switch_at (λ n. on_trail (pos n) t) w (number l) h ∙ sym (ap (λ b. cond b (nth false (map (λ n. on_trail (pos n) t) (range_with_len 1 w)) (number l)) (K.truth m (number l - w) (numerators K m t) d)) (le-leb (number l) w h)))

@@ -63,7 +63,8 @@ impl<T: Theory> Reading<'_, T> {
             .all(|l| is_within(most, usize::from(l.unsigned_abs())))
     }
 
-    // The clause matches two alike applications: equal arguments are denied, or an equal result is affirmed.
+    // The clause matches two alike applications: at each place whose arguments differ it denies that they are equal, and it
+    // affirms that the results are.
     fn is_congruent(&self, p: &Application, q: &Application) -> bool
         ensures { result ≡ congruent T.Theory.kind (T.Theory.model self.now.below.now) self.now.switches self.now.clause.now (application_of p.now) (application_of q.now) }
     {

@@ -11,10 +11,6 @@ use Rattle.calculus.specs.Arrangements.{SameFraction}
 use Rattle.calculus.proofs.Testing.{same_true, same_refl, every_same}
 use Rattle.congruences.specs.Applications.{Application, alike, at_each_place, equal_at, agree, consistent}
 
--- a positive factor cancels
-positive : (a d : ℕ) → 0 < d → 0 < suc a * d
-positive a d p = mul-pos (omega arith) p
-
 not_negative : (m k : ℕ) → 0 < k → pos m ≢ neg_ℤ (pos k)
 not_negative m zero p e = omega arith
 not_negative m (suc k) p e = let z : ◌≡◌ {A = ℕ} 0 1 = cc in omega arith
@@ -22,10 +18,11 @@ not_negative m (suc k) p e = let z : ◌≡◌ {A = ℕ} 0 1 = cc in omega arith
 negated_same : (j k : ℕ) → neg_ℤ (pos j) ≡ neg_ℤ (pos k) → j ≡ k
 negated_same j k e = let q : pos j ≡ pos k = sym (neg_ℤ-neg_ℤ (pos j)) ∙ ap neg_ℤ e ∙ neg_ℤ-neg_ℤ (pos k) in cc
 
+-- a positive factor cancels
 cancel : (a b : ℤ) (d : ℕ) → 0 < d → a *ℤ pos d ≡ b *ℤ pos d → a ≡ b
 cancel (pos a) (pos b) d p e = let q : a * d ≡ b * d = cc in ap pos (eq_of_mul-eq-mul_right d p a b q)
-cancel (pos a) (negsuc b) d p e = absurd (not_negative (a * d) (suc b * d) (positive b d p) e)
-cancel (negsuc a) (pos b) d p e = absurd (not_negative (b * d) (suc a * d) (positive a d p) (sym e))
+cancel (pos a) (negsuc b) d p e = absurd (not_negative (a * d) (suc b * d) (mul-pos (omega arith) p) e)
+cancel (negsuc a) (pos b) d p e = absurd (not_negative (b * d) (suc a * d) (mul-pos (omega arith) p) (sym e))
 cancel (negsuc a) (negsuc b) d p e = let q : suc a ≡ suc b = eq_of_mul-eq-mul_right d p (suc a) (suc b) (negated_same (suc a * d) (suc b * d) e) in let r : a ≡ b = omega arith in ap negsuc r
 
 -- two tests that imply each other are one

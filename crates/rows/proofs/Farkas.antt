@@ -15,7 +15,7 @@ use Rattle.rows.specs.declared.Entry.{Entry}
 use Rattle.rows.specs.Rows.{Row, no_row, total, weight, compares, true_of, coefficient_of, turned_entry, same_relation}
 use Rattle.rows.specs.Hints.{denied_row, denial_of, allowed, coefficient_in, constant_in, strict, Part, column, constants, refutes, row_of, denial, parts}
 use Rattle.calculus.proofs.Testing.{same_true}
-use Rattle.rows.proofs.Integers.{*ℤ-+ℤ, +ℤ-*ℤ, *ℤ-assoc, neg-*ℤ, swap_sums, times_le, times_lt, neg_times}
+use Rattle.rows.proofs.Integers.{lt_z_true, *ℤ-+ℤ, +ℤ-*ℤ, *ℤ-assoc, neg-*ℤ, swap_sums, times_le, times_lt, neg_times}
 
 -- the columns: a sum over the measures, one measure after another
 past_take : (n : ℕ) (xs : List ℤ) (i : ℕ) → n ≤ i → get_or (take n xs) i (pos 0) ≡ pos 0
@@ -196,11 +196,8 @@ refuted ps xs d t hd met = by (or_cases (lt_z (constants ps) (pos 0)) (same (con
     at : (s C : ℤ) → s ≡ pos 0 → s <ℤ C → C ≡ pos 0 → ⊥
     at s C e h k = omega (arith, ints)
 
-    under : (C : ℤ) → lt_z C (pos 0) ≡ true → C <ℤ pos 0
-    under C e = omega (arith, ints)
-
     by : (lt_z (constants ps) (pos 0) ≡ true) ⊎ ((same (constants ps) (pos 0) && some_strict ps) ≡ true) → ⊥
-    by (inl l) = below (weights ps xs) (constants ps *ℤ pos d) z (sum_le ps xs d met t₁.0) (neg_times (constants ps) d (under (constants ps) l) hd)
+    by (inl l) = below (weights ps xs) (constants ps *ℤ pos d) z (sum_le ps xs d met t₁.0) (neg_times (constants ps) d (lt_z_true (constants ps) (pos 0) l) hd)
     by (inr l) = let e = and_parts (same (constants ps) (pos 0)) (some_strict ps) l in at (weights ps xs) (constants ps *ℤ pos d) z (sum_lt ps xs d met t₁.0 e.1) (ap (λ x. x *ℤ pos d) (same_true (constants ps) (pos 0) e.0) ∙ zero-*ℤ (pos d))
 
 -- a false literal's denial is met
@@ -214,9 +211,6 @@ turn_le v b v' b' t e f = omega (arith, ints)
 turn_lt : (v b v' b' : ℤ) → le_z v b ≡ false → v' ≡ neg_ℤ v → b' ≡ neg_ℤ b → v' <ℤ b'
 turn_lt v b v' b' t e f = omega (arith, ints)
 
-kept_lt : (v b : ℤ) → lt_z v b ≡ true → v <ℤ b
-kept_lt v b t = omega (arith, ints)
-
 kept_le : (v b : ℤ) → le_z v b ≡ true → v ≤ℤ b
 kept_le v b t = omega (arith, ints)
 
@@ -226,7 +220,7 @@ met_turned AtMost r xs d t = turn_lt (weight r.entries xs) (r.constant *ℤ pos 
 met_turned Equal r xs d t = tt
 
 met_kept : (R : Relation) (v b : ℤ) → compares R v b ≡ true → Compared R v b
-met_kept Less v b t = kept_lt v b t
+met_kept Less v b t = lt_z_true v b t
 met_kept AtMost v b t = kept_le v b t
 met_kept Equal v b t = same_true v b t
 

@@ -2,10 +2,14 @@
 use Rattle.std.proofs.Common.{◌≡◌, ℕ, ◌+◌, ◌*◌, ◌<◌, ◌≤◌, true, ℤ, pos, negsuc, ◌+ℤ◌, ◌*ℤ◌, neg_ℤ, ◌≤ℤ◌, ◌<ℤ◌, sym, ap, ◌∙◌, subst, mul_assoc, add-mul, mul-le-mul_left, mul-lt-mul_of_pos_right, mul-add, arith}
 use native.Mathlib.Nat.{mul-lt-mul_of_pos_left}
 use lib.IntN.{*ℤ_comm}
+use lib.Signed.{lt_z}
 use Rattle.std.proofs.lemmas.Int.{ints}
 use borrow.Author.Differences.{up, down, sum_is_lem, product_is, neg_is, same_in}
 use Rattle.calculus.specs.Literals.{same}
 use Rattle.calculus.proofs.Testing.{same_refl}
+
+pub lt_z_true : (a b : ℤ) → lt_z a b ≡ true → a <ℤ b
+lt_z_true a b t = omega (arith, ints)
 
 -- n * (a + b + c) = n * (d + e + f)
 times₃ : (n a b c d e f : ℕ) → a + b + c ≡ d + e + f → n * a + n * b + n * c ≡ n * d + n * e + n * f

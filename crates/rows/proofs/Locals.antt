@@ -14,12 +14,9 @@ use Rattle.rows.specs.declared.Entry.{Entry}
 use Rattle.rows.specs.Rows.{Row, weight, compares, true_of, mentions, same_relation}
 use Rattle.rows.specs.Linear.{opposed, equates}
 use Rattle.calculus.proofs.Testing.{same_true}
-use Rattle.rows.proofs.Integers.{+ℤ-*ℤ, *ℤ-assoc, neg-*ℤ, same_same, times_le, times_lt}
+use Rattle.rows.proofs.Integers.{lt_z_true, +ℤ-*ℤ, *ℤ-assoc, neg-*ℤ, same_same, times_le, times_lt}
 
 -- comparisons do not change when both sides are multiplied by a positive number
-under : (a b : ℤ) → lt_z a b ≡ true → a <ℤ b
-under a b t = omega (arith, ints)
-
 not_under : (a b : ℤ) → lt_z a b ≡ false → b ≤ℤ a
 not_under a b t = omega (arith, ints)
 
@@ -39,7 +36,7 @@ ltZ_times : (a b : ℤ) (e : ℕ) → 0 < e → lt_z (a *ℤ pos e) (b *ℤ pos 
 ltZ_times a b e p = by (cases_Bool (lt_z a b))
   where
     by : (lt_z a b ≡ true) ⊎ (lt_z a b ≡ false) → lt_z (a *ℤ pos e) (b *ℤ pos e) ≡ lt_z a b
-    by (inl t) = lt_is _ _ (times_right_lt a b e p (under a b t)) ∙ sym t
+    by (inl t) = lt_is _ _ (times_right_lt a b e p (lt_z_true a b t)) ∙ sym t
     by (inr t) = le_is_not _ _ (times_right_le b a e (not_under a b t)) ∙ sym t
 
 leZ_ltZ : (a b : ℤ) → le_z a b ≡ not (lt_z b a)

@@ -20,9 +20,6 @@ use Rattle.trials.specs.Signs as spec
 use Rattle.trials.specs.Signs.{Signs, Sign, sign, no_atom, atom, with_count, with_atom, with_signed, too_many, not_zero, judged, alike, affirms_sign, both_signs, signs}
 
 -- equal fractions have one sign
-positive_product : (m e : ℕ) → 0 < e → 0 < suc m * e
-positive_product m e p = mul-pos (omega arith) p
-
 sign_negative : (k : ℕ) → 0 < k → (sign true (neg_ℤ (pos k)) ≡ true) × (sign false (neg_ℤ (pos k)) ≡ false)
 sign_negative zero p = absurd (omega arith)
 sign_negative (suc k) p = (refl, refl)
@@ -33,10 +30,10 @@ sign_positive (suc k) p = refl
 
 sign_times : (b : Bool) (x : ℤ) (e : ℕ) → 0 < e → sign b (x *ℤ pos e) ≡ sign b x
 sign_times true (pos n) e p = ap (sign true) (pos-*ℤ-pos n e)
-sign_times true (negsuc n) e p = ap (sign true) (negsuc-*ℤ-pos n e) ∙ (sign_negative (suc n * e) (positive_product n e p)).0
+sign_times true (negsuc n) e p = ap (sign true) (negsuc-*ℤ-pos n e) ∙ (sign_negative (suc n * e) (mul-pos (omega arith) p)).0
 sign_times false (pos zero) e p = ap (sign false) (zero-*ℤ (pos e))
-sign_times false (pos (suc n)) e p = ap (sign false) (pos-*ℤ-pos (suc n) e) ∙ sign_positive (suc n * e) (positive_product n e p)
-sign_times false (negsuc n) e p = ap (sign false) (negsuc-*ℤ-pos n e) ∙ (sign_negative (suc n * e) (positive_product n e p)).1
+sign_times false (pos (suc n)) e p = ap (sign false) (pos-*ℤ-pos (suc n) e) ∙ sign_positive (suc n * e) (mul-pos (omega arith) p)
+sign_times false (negsuc n) e p = ap (sign false) (negsuc-*ℤ-pos n e) ∙ (sign_negative (suc n * e) (mul-pos (omega arith) p)).1
 
 same_sign : (b : Bool) (x y : ℤ) (d e : ℕ) → 0 < d → 0 < e → SameFraction x d y e → sign b x ≡ sign b y
 same_sign b x y d e p q h = sym (sign_times b x e q) ∙ ap (sign b) h ∙ sign_times b y d p
