@@ -13,7 +13,7 @@ use Rattle.files.specs.Decoding.{no_bytes, one, two, four, five, counted, case_c
 use Rattle.verdicts.specs.Stated.{switches_of, rules_of, told_by}
 
 -- what is said of the call, if there is one
-abbrev IfCall : (Call → Type 0) → InputCause ⊎ Call → Type 0
+abbrev pub IfCall : (Call → Type 0) → InputCause ⊎ Call → Type 0
 IfCall P (inl x) = Unit {0}
 IfCall P (inr c) = P c
 
@@ -21,28 +21,28 @@ call_so : (P : Call → Type 0) (o : InputCause ⊎ Call) (c : Call) → o ≡ i
 call_so P o c e h = subst (IfCall P) e h
 
 module _ (P : Call → Type 0) where
-  either : (b : Bool) (x y : InputCause ⊎ Call) → IfCall P x → IfCall P y → IfCall P (cond b x y)
+  pub either : (b : Bool) (x y : InputCause ⊎ Call) → IfCall P x → IfCall P y → IfCall P (cond b x y)
   either true x y p q = p
   either false x y p q = q
 
-  no_bytes_so : (c : Call) (body : List ℕ) → P c → IfCall P (no_bytes c body)
+  pub no_bytes_so : (c : Call) (body : List ℕ) → P c → IfCall P (no_bytes c body)
   no_bytes_so c [] h = h
   no_bytes_so c (a ∷ more) h = tt
 
-  one_so : (f : ℕ → Call) (body : List ℕ) → ((a : ℕ) → P (f a)) → IfCall P (one f body)
+  pub one_so : (f : ℕ → Call) (body : List ℕ) → ((a : ℕ) → P (f a)) → IfCall P (one f body)
   one_so f [] h = tt
   one_so f (a ∷ more) h = no_bytes_so (f a) more (h a)
 
-  two_so : (f : ℕ → ℕ → Call) (body : List ℕ) → ((a b : ℕ) → P (f a b)) → IfCall P (two f body)
+  pub two_so : (f : ℕ → ℕ → Call) (body : List ℕ) → ((a b : ℕ) → P (f a b)) → IfCall P (two f body)
   two_so f [] h = tt
   two_so f (a ∷ more) h = one_so (f a) more (h a)
 
-  four_so : (f : ℕ → ℕ → ℕ → ℕ → Call) (body : List ℕ) → ((a b c d : ℕ) → P (f a b c d)) → IfCall P (four f body)
+  pub four_so : (f : ℕ → ℕ → ℕ → ℕ → Call) (body : List ℕ) → ((a b c d : ℕ) → P (f a b c d)) → IfCall P (four f body)
   four_so f [] h = tt
   four_so f (a ∷ []) h = tt
   four_so f (a ∷ b ∷ more) h = two_so (f a b) more (h a b)
 
-  five_so : (f : ℕ → ℕ → ℕ → ℕ → ℕ → Call) (body : List ℕ) → ((a b c d e : ℕ) → P (f a b c d e)) → IfCall P (five f body)
+  pub five_so : (f : ℕ → ℕ → ℕ → ℕ → ℕ → Call) (body : List ℕ) → ((a b c d e : ℕ) → P (f a b c d e)) → IfCall P (five f body)
   five_so f [] h = tt
   five_so f (a ∷ more) h = four_so (f a) more (h a)
 
