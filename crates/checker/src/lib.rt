@@ -11,7 +11,8 @@ ghost use Rattle.checker.specs.Worked.{WorkedCasesStand};
 use faults::{FileFault, InputCause};
 use files::{Frame, Stop};
 use piles::CongruentLinear;
-use report::{LEAST_BUFFER, Outcome};
+pub use report::LEAST_BUFFER;
+use report::Outcome;
 use switches::Switches;
 
 // A refusal before any file is read.
