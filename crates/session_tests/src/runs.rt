@@ -160,12 +160,16 @@ fn tokens_come_back(rt: HostRuntime) -> Result<(), Fail> {
     let Err((conflict, _)) = session.jump(conflict, -1) else {
         return Err(Fail::new("jumped by another literal"));
     };
-    let Err((held, _)) = session.abandon_conflict(conflict) else {
-        assert!(rt; matches!(session.phase(), Phase::Undecided));
-        return Ok(());
-    };
-    session.leave(held);
-    Err(Fail::new("not abandoned"))
+    match session.abandon_conflict(conflict) {
+        Ok(()) => {
+            assert!(rt; matches!(session.phase(), Phase::Undecided));
+            Ok(())
+        }
+        Err((held, _)) => {
+            session.leave(held);
+            Err(Fail::new("not abandoned"))
+        }
+    }
 }
 
 // A session lies in 32 KiB.
