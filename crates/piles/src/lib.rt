@@ -1,8 +1,9 @@
 // Theories piled up: each pile is lawful because its layers are, so the law over every run holds of it.
 #![tactic(auto)]
 
+ghost use Rattle.std.specs.Prelude.{◌≡◌};
 ghost use Rattle.calculus.specs.Sound.{EveryRunSound};
-ghost use Rattle.piles.specs.Piles.{congruent_linear, twice_congruent};
+ghost use Rattle.piles.specs.Piles.{congruent_linear, twice_congruent, congruent_linear_of, twice_congruent_of};
 ghost use Rattle.piles.specs.Examples.{ExamplesStand};
 
 use calculus::{Theory, law};
@@ -15,18 +16,22 @@ pub type CongruentLinear = Congruence<Linear>;
 // Congruence over congruence over linear.
 pub type TwiceCongruent = Congruence<CongruentLinear>;
 
-// Every run over congruence over linear is sound. This and the next are the law at two types.
-pub fn congruent_linear_sound()
-    ensures { EveryRunSound congruent_linear }
+// Congruence over linear as it begins, and the law over every run with it.
+pub fn congruent_linear() -> CongruentLinear
+    ensures begun { congruent_linear_of result ≡ congruent_linear.begun }
+    ensures sound { EveryRunSound congruent_linear }
 {
-    law::<CongruentLinear>()
+    law::<CongruentLinear>();
+    CongruentLinear::begin()
 }
 
-// Every run over congruence over congruence over linear is sound.
-pub fn twice_congruent_sound()
-    ensures { EveryRunSound twice_congruent }
+// The same of congruence over congruence over linear.
+pub fn twice_congruent() -> TwiceCongruent
+    ensures begun { twice_congruent_of result ≡ twice_congruent.begun }
+    ensures sound { EveryRunSound twice_congruent }
 {
-    law::<TwiceCongruent>()
+    law::<TwiceCongruent>();
+    TwiceCongruent::begin()
 }
 
 // Congruence over linear answers what the tables say.
