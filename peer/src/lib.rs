@@ -6,7 +6,10 @@
 
 pub mod faults;
 pub mod files;
+pub mod generate;
 pub mod literals;
+#[cfg(feature = "proved")]
+pub mod proved;
 pub mod report;
 pub mod session;
 pub mod theories;

@@ -1,0 +1,213 @@
+//! Pairs of a case and a log, one after another, from a seed.
+
+use super::mutations::{make_long, spoil_bytes, Draft};
+use super::problems::{any_atom, Shape};
+use super::random::Random;
+use super::rows::{body_of, Shown};
+use super::run::Run;
+use super::solver::Manner;
+use crate::files::File;
+use crate::report::SHORTEST_BUFFER;
+use crate::theories::{Congruence, Linear, Switches, MEASURES};
+use crate::writing::{self, *};
+
+/// What a check is asked.
+#[derive(Clone, Debug, PartialEq, Eq)]
+pub struct Pair {
+    pub theory: u8,
+    pub case: Vec<u8>,
+    pub log: Vec<u8>,
+    /// How long the report buffer is.
+    pub buffer: usize,
+}
+
+/// So many pairs in a row come from one draft: the draft as it is, and then spoilt.
+pub const FAMILY: u64 = 8;
+
+/// All pairs of a seed, from a given one on.
+pub struct Pairs {
+    seed: u64,
+    next: u64,
+    /// The family that the draft is of.
+    family: Option<(u64, Draft)>,
+}
+
+impl Pairs {
+    pub fn from(seed: u64, first: u64) -> Pairs {
+        Pairs { seed, next: first, family: None }
+    }
+
+    fn draft(&mut self, family: u64) -> &Draft {
+        if self.family.as_ref().is_none_or(|(of, _)| *of != family) {
+            let mut random = Random::of_item(self.seed, family);
+            self.family = Some((family, any_draft(&mut random)));
+        }
+        &self.family.as_ref().expect("just made").1
+    }
+}
+
+impl Iterator for Pairs {
+    type Item = Pair;
+
+    fn next(&mut self) -> Option<Pair> {
+        let (family, member) = (self.next / FAMILY, self.next % FAMILY);
+        let mut random = Random::of_item(!self.seed, self.next);
+        self.next += 1;
+        let draft = self.draft(family);
+        Some(if member == 0 { plain(draft) } else { spoilt(draft, &mut random) })
+    }
+}
+
+fn plain(draft: &Draft) -> Pair {
+    Pair {
+        theory: draft.theory,
+        case: writing::file(&draft.case),
+        log: writing::file(&draft.log),
+        buffer: SHORTEST_BUFFER,
+    }
+}
+
+/// The draft with one thing spoilt, or a few.
+fn spoilt(draft: &Draft, random: &mut Random) -> Pair {
+    if random.once_in(10) {
+        return spoilt_bytes(plain(draft), random);
+    }
+    let mut draft = draft.clone();
+    for _ in 0..1 + random.below(12) / 10 {
+        draft.spoil(random);
+    }
+    let mut pair = plain(&draft);
+    if random.once_in(50) {
+        let lengths = [0, 1, 2_047, 2_048, 2_049, 5_000];
+        pair.buffer = lengths[random.below(lengths.len())];
+    }
+    pair
+}
+
+fn spoilt_bytes(mut pair: Pair, random: &mut Random) -> Pair {
+    let (file, bytes) =
+        if random.once_in(3) { (File::Case, &mut pair.case) } else { (File::Log, &mut pair.log) };
+    if random.once_in(30) {
+        let length = file.limit() + random.below(3) - 1;
+        make_long(bytes, length, random);
+    } else {
+        spoil_bytes(bytes, random);
+    }
+    pair
+}
+
+/// A case with its log: mostly small, seldom at the limits.
+fn any_draft(random: &mut Random) -> Draft {
+    match random.below(1_000) {
+        0..=2 => {
+            let shape = Shape::large(random);
+            any_run(random, shape, 12_000)
+        }
+        3..=17 => at_limits(random),
+        18..=22 => long_resolvent(random),
+        23..=122 => {
+            let shape = Shape::wide(random);
+            any_run(random, shape, 400)
+        }
+        123..=470 => {
+            let shape = Shape::middle(random);
+            any_run(random, shape, 400)
+        }
+        _ => {
+            let shape = Shape::small(random);
+            any_run(random, shape, 120)
+        }
+    }
+}
+
+fn any_run(random: &mut Random, shape: Shape, steps: usize) -> Draft {
+    if random.once_in(5) {
+        run::<Switches>(random, &shape.of_switches(), steps)
+    } else {
+        run::<Congruence<Linear>>(random, &shape, steps)
+    }
+}
+
+/// How far from its limit a log is when it is filled up to it.
+const FILLED: usize = 110;
+
+fn run<T: Shown>(random: &mut Random, shape: &Shape, steps: usize) -> Draft {
+    let manner = Manner {
+        stray: 3 + random.below(40),
+        refute: random.below(6),
+        set: 1 + random.below(8),
+        claim: 1 + random.below(12),
+        follow: if random.once_in(3) { 30 } else { 1 },
+    };
+    let slips = random.once_in(6);
+    let cut = random.once_in(8);
+    let mut run = Run::<T>::new(Random::new(random.word()));
+    run.daring = random.once_in(3);
+    run.draft(shape);
+    if slips || cut {
+        let early = run.random.below(40.min(steps));
+        run.search(&manner, early);
+    } else if shape.spare > 0 {
+        run.limit -= FILLED;
+        run.search(&manner, steps);
+        run.limit += FILLED;
+        run.fill();
+    } else {
+        run.search(&manner, steps);
+    }
+    if slips && !run.over() {
+        run.slip();
+    }
+    Draft { theory: T::NUMBER, case: run.case, log: run.log }
+}
+
+/// A case that uses up one limit, or goes beyond it by one.
+fn at_limits(random: &mut Random) -> Draft {
+    let over = random.below(2);
+    let (mut switches, mut measures, mut atoms) = (20, 4, 20);
+    let (mut rules, mut applications, mut literals) = (5, 3, 3);
+    match random.below(6) {
+        0 => (switches, atoms) = (127 + over as u8, 0),
+        1 => measures = 16 + over as u8,
+        2 => (switches, atoms) = (random.below(100) as u8, 127),
+        3 => rules = 250 + over,
+        4 => applications = 32 + over,
+        _ => literals = 16 + over,
+    }
+    let atoms = atoms.min(127 + over - usize::from(switches).min(127));
+    let mut case = vec![counts(switches, measures)];
+    let result = 1 + random.below(usize::from(measures)) as u8;
+    case.resize(1 + applications, declare(application(7, &[1, 2, 3], result)));
+    for _ in 0..atoms {
+        case.push(admit(body_of(&any_atom(random, measures.min(MEASURES as u8), 9))));
+    }
+    for _ in 0..rules {
+        let mut clause: Vec<i8> = (1..=literals as i8).collect();
+        clause.iter_mut().for_each(|l| *l = if random.coin() { *l } else { -*l });
+        case.push(rule(&clause));
+    }
+    let mut log = vec![seal(1)];
+    log.extend((1..=switches.min(127) as i8).map(choose));
+    log.extend((1..=measures).map(|m| set(m, random.within(-5, 5) as i32)));
+    log.push([claim(), abandon()][random.below(2)].clone());
+    Draft { theory: 2, case, log }
+}
+
+/// A conflict whose resolvent has about as many literals as a clause can have, and sometimes more.
+fn long_resolvent(random: &mut Random) -> Draft {
+    let (one, other) = (random.within(9, 16) as i8, random.within(1, 16) as i8);
+    // The two clauses are on the numbers 2 to `one`, and from there back to `first`, and both on 1.
+    let first = (random.within(15, 18) as i8 + 2 - other).max(2);
+    let last = first + other - 1;
+    let mut reason: Vec<i8> = [1].into_iter().chain((2..=one).map(|n| -n)).collect();
+    let mut open: Vec<i8> = [-1].into_iter().chain((first..last).map(|n| -n)).collect();
+    random.shuffle(&mut reason);
+    random.shuffle(&mut open);
+    let case = vec![counts(40, 0), rule(&reason), rule(&open)];
+    let mut choices: Vec<Written> = (2..=one.max(last)).map(choose).collect();
+    random.shuffle(&mut choices);
+    let mut log = vec![seal(1)];
+    log.extend(choices);
+    log.extend([propagate(1, 1), conflict(2), resolve(1), resolve(2)]);
+    Draft { theory: 1 + random.below(2) as u8, case, log }
+}
