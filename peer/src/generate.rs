@@ -1,6 +1,7 @@
 //! Makes cases with logs to compare two checks on: a solver of its own writes logs that are mostly
 //! taken, and mutations spoil them.
 
+pub mod cycles;
 pub mod eliminate;
 pub mod lemmas;
 pub mod mutations;

@@ -85,18 +85,24 @@ impl<T: Shown> Run<T> {
         Some((Literal::new(number, false), divisor))
     }
 
-    /// A lemma over some atoms, with multipliers that were made up and one atom that closes the sum.
-    pub fn combine(&mut self) -> bool {
+    /// A lemma over some atoms of any kind, as `combine` has it.
+    pub fn combine_any(&mut self) -> bool {
+        let most = if self.random.once_in(6) { CLAUSE_LITERALS - 1 } else { 4 };
+        let mut numbers: Vec<u8> = Vec::new();
+        for _ in 0..1 + self.random.below(most) {
+            numbers.extend(self.any_number().filter(|n| !numbers.contains(n)));
+        }
+        self.combine(numbers)
+    }
+
+    /// A lemma over these atoms, with multipliers that are made up, and one atom that closes the sum.
+    pub fn combine(&mut self, numbers: Vec<u8>) -> bool {
         let mut parts: Vec<(Literal, i64)> = Vec::new();
         let mut sum = Bounded::default();
-        let most = if self.random.once_in(6) { CLAUSE_LITERALS - 1 } else { 4 };
-        for _ in 0..1 + self.random.below(most) {
-            let Some((literal, bound)) = self.any_bound() else {
-                return false;
-            };
-            if parts.iter().any(|(l, _)| l.number() == literal.number()) {
+        for number in numbers {
+            let Some(bound) = self.any_bound(number) else {
                 continue;
-            }
+            };
             let multiplier = self.any_multiplier();
             let Some(next) = sum.plus(1, &bound.says, multiplier) else {
                 return false;
@@ -104,7 +110,7 @@ impl<T: Shown> Run<T> {
             // A strict row counts only with a multiplier above 0.
             let strict = sum.strict || bound.says.strict && multiplier > 0;
             sum = Bounded { strict, ..next };
-            parts.push((literal, bound.sign * multiplier));
+            parts.push((bound.literal, bound.sign * multiplier));
         }
         if !sum.is_absurd() {
             match self.closing(&sum) {
@@ -115,11 +121,13 @@ impl<T: Shown> Run<T> {
         self.deny(parts)
     }
 
-    fn any_bound(&mut self) -> Option<(Literal, Bound)> {
-        let literal = self.any_literal()?;
-        let atom = self.session.theory().row(self.atom_of(literal.number())?)?;
-        let bounds: Vec<Bound> = bounds_of(literal, atom).collect();
-        Some((literal, self.random.pick(&bounds)?))
+    /// What an atom or its denial says.
+    fn any_bound(&mut self, number: u8) -> Option<Bound> {
+        let atom = self.session.theory().row(self.atom_of(number)?)?;
+        let affirmed = bounds_of(Literal::new(number, true), atom);
+        let denied = bounds_of(Literal::new(number, false), atom);
+        let bounds: Vec<Bound> = affirmed.chain(denied).collect();
+        self.random.pick(&bounds)
     }
 
     fn any_multiplier(&mut self) -> i64 {

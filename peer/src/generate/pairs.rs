@@ -1,5 +1,6 @@
 //! Pairs of a case and a log, one after another, from a seed.
 
+use super::cycles::Heavy;
 use super::mutations::{make_long, spoil_bytes, Draft};
 use super::problems::{any_atom, Shape};
 use super::random::Random;
@@ -98,6 +99,11 @@ fn spoilt_bytes(mut pair: Pair, random: &mut Random) -> Pair {
 
 /// A case with its log: mostly small, seldom at the limits.
 fn any_draft(random: &mut Random) -> Draft {
+    if random.once_in(2_000) {
+        let heavy = Heavy::ALL[random.below(Heavy::ALL.len())];
+        let bytes = if random.coin() { 40_000 } else { 2_000 + random.below(38_000) };
+        return heavy.draft(random, bytes);
+    }
     match random.below(1_000) {
         0..=2 => {
             let shape = Shape::large(random);

@@ -55,7 +55,8 @@ impl<T: Shown> Run<T> {
         if self.random.once_in(manner.stray) && self.stray() {
             return true;
         }
-        let lazy = !self.random.once_in(manner.follow);
+        let learnt = self.log.last().is_some_and(|record| record.kind == 11);
+        let lazy = !learnt && !self.random.once_in(manner.follow);
         !lazy && self.follow() || self.read_one() || self.decide(manner) || lazy && self.follow()
     }
 
@@ -99,12 +100,11 @@ impl<T: Shown> Run<T> {
         if unset.is_empty() && self.random.once_in(manner.claim) && self.dare(claim()) {
             return true;
         }
-        let first = if self.random.once_in(manner.set) {
-            self.set_one(&unset) || self.choose_one()
-        } else {
-            self.choose_one() || self.set_one(&unset)
-        };
-        first || unset.is_empty() && (self.dare(claim()) || self.clash())
+        let set_first = self.random.once_in(manner.set);
+        let decided = set_first && self.set_one(&unset)
+            || self.choose_one()
+            || !set_first && self.set_one(&unset);
+        decided || unset.is_empty() && (self.dare(claim()) || self.clash())
     }
 
     fn unset_measures(&self) -> Vec<u8> {

@@ -11,7 +11,7 @@ impl<T: Shown> Run<T> {
     /// Tries a call that is not asked for, and keeps it if it is taken.
     pub fn stray(&mut self) -> bool {
         match self.random.below(12) {
-            0 => self.combine(),
+            0 => self.combine_any(),
             1 => match self.any_number() {
                 Some(number) => self.split(number),
                 None => false,
