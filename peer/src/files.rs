@@ -77,6 +77,8 @@ impl<'a> Iterator for Reader<'a> {
         }
         self.place = Place { record: self.place.record + 1, byte: self.next };
         let Some((record, length)) = split_record(rest) else {
+            // Nothing is read behind it.
+            self.next = self.bytes.len();
             return Some(Err(Cause::BadRecordLength));
         };
         self.next += length;

@@ -19,6 +19,9 @@ impl Draft {
             self.theory = [0, 1, 2, 3, 255][random.below(5)];
             return;
         }
+        if random.once_in(3) && self.spoil_telling(random) {
+            return;
+        }
         let file = if random.once_in(4) { File::Case } else { File::Log };
         let records = match file {
             File::Case => &mut self.case,
@@ -35,6 +38,26 @@ impl Draft {
                 let index = random.below(records.len());
                 spoil_record(&mut records[index], random);
             }
+        }
+    }
+}
+
+impl Draft {
+    /// Spoils an argument of a lemma, an atom or an application, where there is one.
+    fn spoil_telling(&mut self, random: &mut Random) -> bool {
+        let kind = [11, 11, 11, 3, 3, 2][random.below(6)];
+        let all = self.case.iter_mut().chain(&mut self.log);
+        let mut telling: Vec<&mut Written> = all.filter(|record| record.kind == kind).collect();
+        if telling.is_empty() {
+            return false;
+        }
+        let index = random.below(telling.len());
+        let record = &mut *telling[index];
+        match random.below(6) {
+            0 | 1 => deny_literal(record, random) || change_word(record, random),
+            2 => rename_measure(record, random) || change_small(record, random),
+            3 => change_small(record, random),
+            _ => change_word(record, random),
         }
     }
 }

@@ -9,7 +9,7 @@ use super::run::Run;
 use super::solver::Manner;
 use crate::files::File;
 use crate::report::SHORTEST_BUFFER;
-use crate::theories::{Congruence, Linear, Switches, MEASURES};
+use crate::theories::{Congruence, Linear, Switches};
 use crate::writing::{self, *};
 
 /// What a check is asked.
@@ -23,7 +23,7 @@ pub struct Pair {
 }
 
 /// So many pairs in a row come from one draft: the draft as it is, and then spoilt.
-pub const FAMILY: u64 = 8;
+pub const FAMILY: u64 = 5;
 
 /// All pairs of a seed, from a given one on.
 pub struct Pairs {
@@ -109,13 +109,17 @@ fn any_draft(random: &mut Random) -> Draft {
             let shape = Shape::large(random);
             any_run(random, shape, 12_000)
         }
-        3..=17 => at_limits(random),
-        18..=22 => long_resolvent(random),
-        23..=122 => {
+        3..=22 => at_limits(random),
+        23..=32 => long_resolvent(random),
+        33..=122 => {
             let shape = Shape::wide(random);
             any_run(random, shape, 400)
         }
-        123..=470 => {
+        123..=272 => {
+            let shape = Shape::of_values(random);
+            any_run(random, shape, 150)
+        }
+        273..=550 => {
             let shape = Shape::middle(random);
             any_run(random, shape, 400)
         }
@@ -141,7 +145,7 @@ fn run<T: Shown>(random: &mut Random, shape: &Shape, steps: usize) -> Draft {
     let manner = Manner {
         stray: 3 + random.below(40),
         refute: random.below(6),
-        set: 1 + random.below(8),
+        set: if shape.sets_first { 1 } else { 1 + random.below(8) },
         claim: 1 + random.below(12),
         follow: if random.once_in(3) { 30 } else { 1 },
     };
@@ -167,36 +171,67 @@ fn run<T: Shown>(random: &mut Random, shape: &Shape, steps: usize) -> Draft {
     Draft { theory: T::NUMBER, case: run.case, log: run.log }
 }
 
-/// A case that uses up one limit, or goes beyond it by one.
+/// How many there are of each thing in a case at the limits.
+struct Counts {
+    switches: u8,
+    measures: u8,
+    applications: usize,
+    numbers: usize,
+    rules: usize,
+    literals: usize,
+}
+
+/// A case that comes near one limit, or just up to it, or goes beyond it by one.
 fn at_limits(random: &mut Random) -> Draft {
-    let over = random.below(2);
-    let (mut switches, mut measures, mut atoms) = (20, 4, 20);
-    let (mut rules, mut applications, mut literals) = (5, 3, 3);
+    let near = random.below(3);
+    let mut of =
+        Counts { switches: 20, measures: 4, applications: 3, numbers: 40, rules: 5, literals: 3 };
     match random.below(6) {
-        0 => (switches, atoms) = (127 + over as u8, 0),
-        1 => measures = 16 + over as u8,
-        2 => (switches, atoms) = (random.below(100) as u8, 127),
-        3 => rules = 250 + over,
-        4 => applications = 32 + over,
-        _ => literals = 16 + over,
+        0 => (of.switches, of.numbers) = (126 + near as u8, 127),
+        1 => of.measures = 15 + near as u8,
+        2 => (of.switches, of.numbers) = (20 + random.below(90) as u8, 126 + near),
+        3 => of.rules = 249 + near,
+        4 => of.applications = 31 + near,
+        _ => of.literals = 15 + near,
     }
-    let atoms = atoms.min(127 + over - usize::from(switches).min(127));
-    let mut case = vec![counts(switches, measures)];
-    let result = 1 + random.below(usize::from(measures)) as u8;
-    case.resize(1 + applications, declare(application(7, &[1, 2, 3], result)));
-    for _ in 0..atoms {
-        case.push(admit(body_of(&any_atom(random, measures.min(MEASURES as u8), 9))));
+    let mut case = vec![counts(of.switches, of.measures)];
+    let result = 1 + random.below(usize::from(of.measures)) as u8;
+    case.resize(1 + of.applications, declare(application(7, &[1, 2, 3], result)));
+    for _ in usize::from(of.switches)..of.numbers {
+        case.push(admit(body_of(&any_atom(random, of.measures.min(16), 9))));
     }
-    for _ in 0..rules {
-        let mut clause: Vec<i8> = (1..=literals as i8).collect();
-        clause.iter_mut().for_each(|l| *l = if random.coin() { *l } else { -*l });
-        case.push(rule(&clause));
+    for _ in 0..of.rules {
+        case.push(rule(&mixed(random, of.literals)));
     }
-    let mut log = vec![seal(1)];
-    log.extend((1..=switches.min(127) as i8).map(choose));
-    log.extend((1..=measures).map(|m| set(m, random.within(-5, 5) as i32)));
-    log.push([claim(), abandon()][random.below(2)].clone());
+    let log = log_at_limits(random, &of, &mut case);
     Draft { theory: 2, case, log }
+}
+
+/// A clause on the first numbers.
+fn mixed(random: &mut Random, literals: usize) -> Vec<i8> {
+    let mut clause: Vec<i8> = (1..=literals as i8).collect();
+    clause.iter_mut().for_each(|l| *l = if random.coin() { *l } else { -*l });
+    clause
+}
+
+/// A search in which a conflict on the last rule comes first, or one more atom, or neither.
+fn log_at_limits(random: &mut Random, of: &Counts, case: &mut Vec<Written>) -> Vec<Written> {
+    let mut log = vec![seal(1)];
+    if random.coin() {
+        log.push(admit(body_of(&any_atom(random, of.measures.min(16), 9))));
+    }
+    if random.coin() {
+        let clause = mixed(random, of.literals);
+        case.pop();
+        case.push(rule(&clause));
+        log.extend(clause.iter().map(|l| choose(-l)));
+        log.extend([conflict(of.rules as u8), jump(clause[of.literals - 1])]);
+    }
+    let first = of.literals as i8 + 1;
+    log.extend((first..=of.switches.min(127) as i8).map(choose));
+    log.extend((1..=of.measures).map(|m| set(m, random.within(-5, 5) as i32)));
+    log.push([claim(), abandon()][random.below(2)].clone());
+    log
 }
 
 /// A conflict whose resolvent has about as many literals as a clause can have, and sometimes more.

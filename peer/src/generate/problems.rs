@@ -22,6 +22,8 @@ pub struct Shape {
     pub spare: u8,
     /// So many holes for one pigeon more, as rules over the switches: no search ends soon.
     pub holes: u8,
+    /// Whether measures are set before anything is chosen.
+    pub sets_first: bool,
     /// See [`Run::bias`].
     pub bias: usize,
 }
@@ -40,6 +42,7 @@ impl Shape {
             coefficient: 1 + random.below(4) as i64,
             spare: 0,
             holes: 0,
+            sets_first: false,
             bias: if random.once_in(4) { 80 } else { 50 },
         }
     }
@@ -50,6 +53,18 @@ impl Shape {
 
     pub fn middle(random: &mut Random) -> Shape {
         Shape::up_to(random, [10, 6, 14, 30])
+    }
+
+    /// With one or two measures and rules over atoms, so that values run into conflicts.
+    pub fn of_values(random: &mut Random) -> Shape {
+        Shape {
+            measures: 1 + random.below(2) as u8,
+            atoms: 4 + random.below(9),
+            rules: 2 + random.below(9),
+            literals: (2, 2 + random.below(4)),
+            sets_first: true,
+            ..Shape::up_to(random, [2, 0, 0, 0])
+        }
     }
 
     /// With many switches and long rules, so that resolvents grow long.
@@ -79,6 +94,7 @@ impl Shape {
             coefficient: 1 + random.below(6) as i64,
             spare: SPARE,
             holes,
+            sets_first: false,
             bias: 50 + random.below(40),
         }
     }
