@@ -111,7 +111,8 @@ fn any_draft(random: &mut Random) -> Draft {
         }
         3..=22 => at_limits(random),
         23..=32 => long_resolvent(random),
-        33..=122 => {
+        33..=37 => noise(random),
+        38..=122 => {
             let shape = Shape::wide(random);
             any_run(random, shape, 400)
         }
@@ -251,4 +252,18 @@ fn long_resolvent(random: &mut Random) -> Draft {
     log.extend(choices);
     log.extend([propagate(1, 1), conflict(2), resolve(1), resolve(2)]);
     Draft { theory: 1 + random.below(2) as u8, case, log }
+}
+
+/// Records of any kind with any bytes.
+fn noise(random: &mut Random) -> Draft {
+    let mut any_record = |kinds: &[u8]| {
+        let kind = random.pick(kinds).unwrap_or(0);
+        let body: Vec<u8> = (0..random.below(9)).map(|_| random.byte() % 8).collect();
+        Written::new(kind, body)
+    };
+    let mut case = vec![counts(3, 3)];
+    case.extend((0..3).map(|_| any_record(&[1, 2, 3, 4, 4, 4])));
+    let mut log = vec![seal(1)];
+    log.extend((0..6).map(|_| any_record(&[3, 10, 11, 12, 13, 14, 15, 16, 17, 18, 19, 20, 21])));
+    Draft { theory: 2, case, log }
 }
