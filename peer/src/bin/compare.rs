@@ -59,8 +59,8 @@ impl Tally {
         let (outcome, records) = match words.as_slice() {
             [] => ("short buffer".to_string(), 0),
             ["refused", cause, _, file, _, record, _, _, _, layer] => {
-                let records = if *file == "2" { record.parse().unwrap_or(1) } else { 1 };
-                (format!("refused {cause:>2} file {file} layer {layer}"), records - 1)
+                let records: usize = if *file == "2" { record.parse().unwrap_or(1) } else { 1 };
+                (format!("refused {cause:>2} file {file} layer {layer}"), records.saturating_sub(1))
             }
             [first, ..] => {
                 self.accepted_bytes += pair.log.len() as u64;
