@@ -1,8 +1,13 @@
 //! Cases that were worked by hand.
 
 use peer::check;
+use peer::files::File;
+use peer::session::trail::Origin;
+use peer::session::Session;
+use peer::theories::{Congruence, Linear};
 use peer::writing::*;
 
+/// The number of congruence over linear arithmetic.
 const LINEAR: u8 = 2;
 
 /// What the check reports.
@@ -118,6 +123,17 @@ fn values_that_no_function_gives_are_not_admitted() {
     assert_eq!(report(LINEAR, &functions(), &log), refused);
 }
 
+/// The session that took all these records.
+fn session(case: &[Written], log: &[Written]) -> Session<Congruence<Linear>> {
+    let mut session = Session::default();
+    for (file, records) in [(File::Case, case), (File::Log, log)] {
+        for record in records {
+            session.call(record.record().call(file).unwrap()).unwrap();
+        }
+    }
+    session
+}
+
 #[test]
 fn a_jump_off_read_literals_chooses() {
     let case = [
@@ -127,12 +143,12 @@ fn a_jump_off_read_literals_chooses() {
         rule(&[1, 2]),
     ];
     let mut log = vec![seal(1), set(1, 3), read(1), read(2), conflict(1), jump(1)];
-    assert_eq!(report(LINEAR, &case, &log), "none\n");
-    // It stands at level 1 as a choice: one more choice is level 2, where 2 is denied by its value.
+    let session = session(&case, &log);
+    let chosen = session.trail().on(1).unwrap();
+    assert_eq!((chosen.affirmed, chosen.level, chosen.origin), (true, 1, Origin::Chosen));
+    assert!(session.trail().on(2).is_none() && session.trail().value(1).is_none());
     log.extend([set(1, 0), read(2), claim()]);
     assert_eq!(report(LINEAR, &case, &log), "possible 1\nm1 0\n");
-    log.splice(6.., [propagate(1, 2)]);
-    assert_eq!(report(LINEAR, &case, &log), "refused 25 file 2 record 7 byte 32 layer 0\n");
 }
 
 #[test]

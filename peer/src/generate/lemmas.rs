@@ -183,7 +183,14 @@ impl<T: Shown> Run<T> {
             clause.extend(self.any_clause((1, 3)));
         }
         self.random.shuffle(&mut clause);
-        self.take(lemma(&clause, &[3, one as u8 + 1, other as u8 + 1]))
+        let hint = [3, one as u8 + 1, other as u8 + 1];
+        if self.daring && self.random.once_in(4) {
+            // Without one of its equalities, which may be one that it needs.
+            clause.pop();
+            self.risk(lemma(&clause, &hint));
+            return true;
+        }
+        self.take(lemma(&clause, &hint))
     }
 
     /// The number of an atom that says that two measures are equal.

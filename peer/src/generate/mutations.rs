@@ -45,7 +45,7 @@ impl Draft {
 impl Draft {
     /// Spoils an argument of a lemma, an atom or an application, where there is one.
     fn spoil_telling(&mut self, random: &mut Random) -> bool {
-        let kind = [11, 11, 11, 3, 3, 2][random.below(6)];
+        let kind = [11, 11, 11, 11, 3, 3, 2, 4][random.below(8)];
         let all = self.case.iter_mut().chain(&mut self.log);
         let mut telling: Vec<&mut Written> = all.filter(|record| record.kind == kind).collect();
         if telling.is_empty() {
@@ -56,7 +56,7 @@ impl Draft {
         match random.below(6) {
             0 | 1 => deny_literal(record, random) || change_word(record, random),
             2 => rename_measure(record, random) || change_small(record, random),
-            3 => change_small(record, random),
+            3 | 4 => resize(record, random),
             _ => change_word(record, random),
         }
     }
@@ -155,6 +155,72 @@ fn change_word(record: &mut Written, random: &mut Random) -> bool {
     true
 }
 
+/// Makes a record shorter or longer by one literal, pair or argument, so that its length is right.
+fn resize(record: &mut Written, random: &mut Random) -> bool {
+    match record.kind {
+        2 => resize_application(record, random),
+        3 => resize_atom(record, random),
+        4 => change_any_literal(&mut record.body, 0, random),
+        11 => resize_lemma(record, random),
+        _ => false,
+    }
+}
+
+/// Takes away the byte at a place, if there is one there, or puts one in before it.
+fn change_any_literal(bytes: &mut Vec<u8>, place: usize, random: &mut Random) -> bool {
+    if place < bytes.len() && random.coin() {
+        bytes.remove(place);
+    } else {
+        bytes.insert(place.min(bytes.len()), random.below(20) as u8);
+    }
+    true
+}
+
+/// An application with one argument less or more.
+fn resize_application(record: &mut Written, random: &mut Random) -> bool {
+    let before = record.body.len();
+    if before < 5 || record.body[2] > 9 {
+        return false;
+    }
+    change_any_literal(&mut record.body, 3, random);
+    record.body[2] = (record.body.len() - 4) as u8;
+    true
+}
+
+/// A linear atom with one measure less or more.
+fn resize_atom(record: &mut Written, random: &mut Random) -> bool {
+    let pairs = usize::from(record.body.get(1).copied().unwrap_or(0));
+    let end = 2 + 5 * pairs;
+    if pairs == 0 || pairs > 16 || end > record.body.len() {
+        return false;
+    }
+    if random.once_in(3) {
+        record.body[1] -= 1;
+        record.body.drain(end - 5..end);
+    } else {
+        record.body[1] += 1;
+        let measure = record.body[end - 5].wrapping_add(1);
+        record.body.splice(end..end, [measure, 0, 0, 0, 1 + random.below(2) as u8]);
+    }
+    true
+}
+
+/// A lemma with one literal less, and without its multiplier.
+fn resize_lemma(record: &mut Written, random: &mut Random) -> bool {
+    let count = usize::from(record.body.first().copied().unwrap_or(0));
+    if count == 0 || record.body.len() < 1 + count {
+        return false;
+    }
+    let literal = random.below(count);
+    let multiplier = 2 + count + 4 * literal;
+    if record.body.get(1 + count) == Some(&1) && multiplier + 4 <= record.body.len() {
+        record.body.drain(multiplier..multiplier + 4);
+    }
+    record.body.remove(1 + literal);
+    record.body[0] -= 1;
+    true
+}
+
 /// Names another measure, in an atom, an application or a value.
 fn rename_measure(record: &mut Written, random: &mut Random) -> bool {
     let length = record.body.len();
@@ -230,4 +296,7 @@ pub fn make_long(bytes: &mut Vec<u8>, length: usize, random: &mut Random) {
         bytes.extend(&writing::file(&[filler])[1..]);
     }
     bytes.resize(length, 0);
+    if random.once_in(5) {
+        bytes[0] = 2;
+    }
 }

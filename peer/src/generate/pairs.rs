@@ -198,6 +198,9 @@ fn at_limits(random: &mut Random) -> Draft {
     let mut case = vec![counts(of.switches, of.measures)];
     let result = 1 + random.below(usize::from(of.measures)) as u8;
     case.resize(1 + of.applications, declare(application(7, &[1, 2, 3], result)));
+    if random.once_in(8) {
+        case.push(declare(vec![3]));
+    }
     for _ in usize::from(of.switches)..of.numbers {
         case.push(admit(body_of(&any_atom(random, of.measures.min(16), 9))));
     }

@@ -162,7 +162,7 @@ impl<T: Shown> Run<T> {
         let mut measure = || 1 + random.below(usize::from(measures.max(1))) as u8;
         let arguments: Vec<u8> = (0..3).map(|_| measure()).collect();
         let result = measure();
-        let arity = if !random.once_in(4) { 1 } else { 1 + random.below(3) };
+        let arity = if random.coin() { 1 } else { 1 + random.below(3) };
         application(7 + random.below(5) as u8 / 4, &arguments[..arity], result)
     }
 
