@@ -11,6 +11,8 @@ use std::time::Instant;
 
 /// What the buffers hold before a check, by the pair's number: a byte that no report has.
 const PATTERNS: [u8; 4] = [0xa5, 0x00, 0xff, 0x80];
+/// After so many pairs the number of the next is shown.
+const PROGRESS: u64 = 10_000;
 /// The longest buffer of a pair.
 const LONGEST: usize = 8_192;
 
@@ -150,6 +152,10 @@ fn compare(seed: u64, count: u64, first: u64) -> bool {
     let mut same = true;
     let mut done = 0;
     for (number, pair) in (first..first + count).zip(Pairs::from(seed, first)) {
+        if number % PROGRESS == 0 {
+            // Where a check crashes or never ends, this says from where on to look.
+            eprint!("\rfrom pair {number} ");
+        }
         let pattern = PATTERNS[number as usize % PATTERNS.len()];
         let ours = Answer::of(&pair, pattern, check);
         let theirs = Answer::of(&pair, pattern, proved::check);
@@ -161,6 +167,7 @@ fn compare(seed: u64, count: u64, first: u64) -> bool {
             break;
         }
     }
+    eprintln!();
     tally.print(done);
     let seconds = start.elapsed().as_secs_f64();
     let rate = 60.0 * done as f64 / seconds;
