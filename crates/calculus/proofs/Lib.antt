@@ -15,3 +15,5 @@ pub mod Soundness
 pub mod Ruling
 pub mod Bounding
 pub mod Refusing
+pub mod OneProof
+pub mod Reaching

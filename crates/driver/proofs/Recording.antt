@@ -18,7 +18,7 @@ abbrev pub of_file : Result (Unit {0}) SessionFault → Result (Unit {0}) FileFa
 of_file (Ok x) = Ok tt
 of_file (Err f) = Err (Refused f)
 
-module _ {T : Type 0} (K : Kind) (model : T → K.Model) (s t : Session T) where
+module _ {T : Type 0} {g : _} (K : Kind) (model : T → K.Model) (s t : Session T g) where
   told : (r : Result Reply SessionFault) → record_view K (of_file (taken_of r)) (view K model t) ≡ unless_fault K r (view K model t)
   told (Ok x) = refl
   told (Err f) = refl

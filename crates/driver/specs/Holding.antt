@@ -69,21 +69,21 @@ serves Concede p = is_analysing p
 serves Claim p = is_searching p
 serves Abandon p = is_searching p || is_analysing p
 
-module _ {T : Type 0} (K : Kind) (model : T → K.Model) where
+module _ {T : Type 0} {g : _} (K : Kind) (model : T → K.Model) where
   -- what is held is what its phase asks for
-  abbrev pub Holds : Held → Session T → Type 0
+  abbrev pub Holds : Held → Session T g → Type 0
   Holds h s = held_in h (view K model s).phase ≡ true
 
-  abbrev pub NotServed : Call → Session T → Type 0
+  abbrev pub NotServed : Call → Session T g → Type 0
   NotServed c s = is_token_call c ≡ true → serves c (view K model s).phase ≡ false
 
-  abbrev pub SamePhase : Session T → Session T → Type 0
+  abbrev pub SamePhase : Session T g → Session T g → Type 0
   SamePhase before after = (view K model after).phase ≡ (view K model before).phase
 
   -- the answer and the state are the calculus'
-  abbrev pub Obeys : Session T → Call → Result (Unit {0}) SessionFault → Session T → Type 0
+  abbrev pub Obeys : Session T g → Call → Result (Unit {0}) SessionFault → Session T g → Type 0
   Obeys before call r after = (r ≡ taken_of (step K (view K model before) call).0) × (view K model after ≡ (step K (view K model before) call).1)
 
   -- and what is held then is right again
-  abbrev pub Advances : Session T → Call → Held × Result (Unit {0}) SessionFault → Session T → Type 0
+  abbrev pub Advances : Session T g → Call → Held × Result (Unit {0}) SessionFault → Session T g → Type 0
   Advances before call r after = Obeys before call r.1 after × Holds r.0 after

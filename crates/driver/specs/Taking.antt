@@ -67,10 +67,10 @@ module _ (K : Kind) where
   file_view (Ok x) s = inr s
   file_view (Err stop) s = inl stop
 
-module _ {T : Type 0} (K : Kind) (model : T → K.Model) where
+module _ {T : Type 0} {g : _} (K : Kind) (model : T → K.Model) where
   -- the answer and the state are the calculus', and what is held then is right: of a record, and of a file
-  abbrev pub TakesRecord : Session T → InputCause ⊎ Call → Held × Result (Unit {0}) FileFault → Session T → Type 0
+  abbrev pub TakesRecord : Session T g → InputCause ⊎ Call → Held × Result (Unit {0}) FileFault → Session T g → Type 0
   TakesRecord before o r after = (record_view K r.1 (view K model after) ≡ after_record K (view K model before) o) × Holds K model r.0 after
 
-  abbrev pub TakesFile : Session T → FileKind → List ℕ → Held × Result (Unit {0}) Stop → Session T → Type 0
+  abbrev pub TakesFile : Session T g → FileKind → List ℕ → Held × Result (Unit {0}) Stop → Session T g → Type 0
   TakesFile before kind file r after = (file_view K r.1 (view K model after) ≡ take_file K kind file (view K model before)) × Holds K model r.0 after

@@ -1,51 +1,22 @@
--- What a session stands for, and what a call of it does.
-use Rattle.std.specs.Prelude.{◌≡◌, Ok, Err, Result}
+-- What a session stands for, and what a call of it does: what its core stands for and does.
+use Rattle.std.specs.Prelude.{Result}
 use Rattle.faults.specs.declared.SessionFault.{SessionFault}
 use Rattle.calculus.specs.Calls.{Call}
-use Rattle.calculus.specs.Calls.Call.{Claim}
 use Rattle.calculus.specs.Kinds.{Kind}
 use Rattle.calculus.specs.States.{State}
-use Rattle.calculus.specs.States.Phase.{New}
-use Rattle.calculus.specs.Steps.{Reply, step, turned, arranged}
-use Rattle.calculus.specs.Steps.Reply.{Done, Handed}
-use Rattle.tables.specs.Tables.{trail_of, store_of, literals_of}
 use Rattle.claims.specs.declared.arrangement.Arrangement.{Arrangement}
-use Rattle.claims.specs.Views.{arrangement_of}
-use Rattle.session.specs.Phases.{phase_of}
+use Rattle.session.specs.Cores as cores
 use Rattle.session.specs.declared.Session.{Session}
 
--- what is answered, but for the token that comes with it
-abbrev pub answer_of : {X : Type 0} → Result X SessionFault → Result Reply SessionFault
-answer_of (Ok x) = Ok Done
-answer_of (Err f) = Err f
+module _ {T : Type 0} {g : _} (K : Kind) (model : T → K.Model) where
+  abbrev pub view : Session T g → State K
+  view s = cores.view K model s.core
 
--- a claim hands out an arrangement
-abbrev pub handed_of : Result Arrangement SessionFault → Result Reply SessionFault
-handed_of (Ok a) = Ok (Handed (arrangement_of a))
-handed_of (Err f) = Err f
+  abbrev pub Steps : {X : Type 0} → Session T g → Call → Result X SessionFault → Session T g → Type 0
+  Steps before call r after = cores.Steps K model before.core call r after.core
 
--- where a token is given, a refusal gives it back
-abbrev pub back_of : {P : Type 0} → P → Result Reply SessionFault → Result (Unit {0}) (P × SessionFault)
-back_of p (Ok x) = Ok tt
-back_of p (Err f) = Err (p, f)
+  abbrev pub Spends : {P : Type 0} → Session T g → Call → P → Result (Unit {0}) (P × SessionFault) → Session T g → Type 0
+  Spends before call p r after = cores.Spends K model before.core call p r after.core
 
-module _ {T : Type 0} (K : Kind) (model : T → K.Model) where
-  -- all but the phase
-  abbrev pub tables_of : Session T → State K
-  tables_of s = record { phase = New; switches = s.counts.switches; numbers = s.counts.numbers; denominator = s.counts.denominator; model = model s.theory; clauses = store_of s.store; trail = trail_of s.trail; open_clause = literals_of s.analysed }
-
-  -- closed as possible, it handed out the arrangement of its trail
-  abbrev pub view : Session T → State K
-  view s = turned K (tables_of s) (phase_of s.phase (arranged K (tables_of s))) (literals_of s.analysed)
-
-  -- the answer is the calculus' answer, and what it stands for then is the calculus' state
-  abbrev pub Steps : {X : Type 0} → Session T → Call → Result X SessionFault → Session T → Type 0
-  Steps before call r after = (answer_of r ≡ (step K (view before) call).0) × (view after ≡ (step K (view before) call).1)
-
-  -- so too where the call spends a token
-  abbrev pub Spends : {P : Type 0} → Session T → Call → P → Result (Unit {0}) (P × SessionFault) → Session T → Type 0
-  Spends before call p r after = (r ≡ back_of p (step K (view before) call).0) × (view after ≡ (step K (view before) call).1)
-
-  -- and where it hands out an arrangement
-  abbrev pub Claims : Session T → Result Arrangement SessionFault → Session T → Type 0
-  Claims before r after = (handed_of r ≡ (step K (view before) Claim).0) × (view after ≡ (step K (view before) Claim).1)
+  abbrev pub Claims : Session T g → Result Arrangement SessionFault → Session T g → Type 0
+  Claims before r after = cores.Claims K model before.core r after.core

@@ -5,10 +5,11 @@ ghost use Rattle.calculus.specs.Literals.{proper};
 ghost use Rattle.calculus.specs.Trails.{false_at};
 ghost use Rattle.calculus.specs.Steps.{has_room, resumed, forced, split};
 ghost use Rattle.tables.specs.Tables.{trail_of};
-ghost use Rattle.session.specs.Views.{answer_of, back_of, view, Steps, Spends};
+ghost use Rattle.session.specs.Cores.{view, Steps, Spends};
+ghost use Rattle.session.specs.Replies.{answer_of, back_of};
 
 use super::phase::{Kind, Phase};
-use super::{Conflict, Session};
+use super::{Conflict, Core};
 use calculus::Theory;
 use faults::{InputCause, SessionFault, StateCause};
 use std::mem;
@@ -16,9 +17,9 @@ use tables::clause::Clause;
 use tables::entry::{Entry, Origin};
 use tables::literals::is_proper;
 
-impl<T: Theory> Session<T> {
+impl<T: Theory> Core<T> {
     // Opens the analysis of a clause all of whose literals are false.
-    pub fn conflict(&mut self, clause: u8) -> Result<Conflict, SessionFault>
+    pub(crate) fn conflict(&mut self, clause: u8) -> Result<Conflict, SessionFault>
         ensures { Steps T.Theory.kind T.Theory.model self.old (to_conflict clause) result self.new }
     {
         if !self.phase.serves(Kind::Conflict) {
@@ -40,7 +41,7 @@ impl<T: Theory> Session<T> {
     }
 
     // Replaces the literal on a number by the reason that made it false.
-    pub fn resolve(&mut self, _conflict: &Conflict, n: u8) -> Result<(), SessionFault>
+    pub(crate) fn resolve(&mut self, _conflict: &Conflict, n: u8) -> Result<(), SessionFault>
         ensures { Steps T.Theory.kind T.Theory.model self.old (to_resolve n) result self.new }
     {
         if !self.phase.serves(Kind::Resolve) {
@@ -65,13 +66,17 @@ impl<T: Theory> Session<T> {
 
     // Stores the analysed clause and goes back: to where it forces the literal, or, if the values made it false, to the
     // level below, where the literal is chosen.
-    pub fn jump(&mut self, conflict: Conflict, literal: i8) -> Result<(), (Conflict, SessionFault)>
+    pub(crate) fn jump(
+        &mut self,
+        conflict: Conflict,
+        literal: i8,
+    ) -> Result<(), (Conflict, SessionFault)>
         ensures { Spends T.Theory.kind T.Theory.model self.old (to_jump literal) conflict result self.new }
     {
         conflict.spent(self.backjump(literal))
     }
 
-    pub(crate) fn backjump(&mut self, literal: i8) -> Result<(), SessionFault>
+    fn backjump(&mut self, literal: i8) -> Result<(), SessionFault>
         ensures { Steps T.Theory.kind T.Theory.model self.old (to_jump literal) result self.new }
     {
         if !self.phase.serves(Kind::Jump) {
@@ -156,7 +161,7 @@ impl<T: Theory> Session<T> {
 
     // Closes as impossible, where the clause is false without any choice. A session closes by two assignments, here and
     // twice more: the contract of a function for them would be longer.
-    pub fn concede(&mut self, conflict: Conflict) -> Result<(), (Conflict, SessionFault)>
+    pub(crate) fn concede(&mut self, conflict: Conflict) -> Result<(), (Conflict, SessionFault)>
         ensures { Spends T.Theory.kind T.Theory.model self.old to_concede conflict result self.new }
     {
         if !self.phase.serves(Kind::Concede) {
@@ -172,7 +177,7 @@ impl<T: Theory> Session<T> {
     }
 
     // Closes without a verdict, where no conflict is held.
-    pub fn abandon(&mut self) -> Result<(), SessionFault>
+    pub(crate) fn abandon(&mut self) -> Result<(), SessionFault>
         ensures { Steps T.Theory.kind T.Theory.model self.old to_abandon result self.new }
     {
         if !self.phase.serves(Kind::Abandon) {
@@ -184,7 +189,10 @@ impl<T: Theory> Session<T> {
     }
 
     // Closes without a verdict, and spends the conflict.
-    pub fn abandon_conflict(&mut self, conflict: Conflict) -> Result<(), (Conflict, SessionFault)>
+    pub(crate) fn abandon_conflict(
+        &mut self,
+        conflict: Conflict,
+    ) -> Result<(), (Conflict, SessionFault)>
         ensures { Spends T.Theory.kind T.Theory.model self.old to_abandon conflict result self.new }
     {
         conflict.spent(self.abandon())
@@ -203,12 +211,5 @@ impl Conflict {
             }
             Err(fault) => Err((self, fault)),
         }
-    }
-}
-
-impl<T: Theory + Drop> Session<T> {
-    // Gives up the session together with the conflict that is open in it.
-    pub fn leave(self, conflict: Conflict) {
-        let Conflict(_) = conflict;
     }
 }

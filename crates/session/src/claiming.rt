@@ -4,9 +4,9 @@ ghost use Rattle.calculus.specs.Lists.{every};
 ghost use Rattle.calculus.specs.States.{meets};
 ghost use Rattle.calculus.specs.Steps.{arranged};
 ghost use Rattle.tables.specs.Tables.{store_of};
-ghost use Rattle.session.specs.Views.{view, Claims};
+ghost use Rattle.session.specs.Cores.{view, Claims};
 
-use super::Session;
+use super::Core;
 use super::phase::{Kind, Phase};
 use calculus::Theory;
 use claims::arrangement::Arrangement;
@@ -14,7 +14,7 @@ use claims::{Claim, are_valued};
 use faults::{SessionFault, StateCause};
 use tables::clause::Clause;
 
-impl<T: Theory> Session<T> {
+impl<T: Theory> Core<T> {
     // The arrangement that the trail makes meets every rule.
     fn are_rules_met(&self) -> bool
         ensures { result ≡ every (λ r. not r.rule || meets T.Theory.kind (T.Theory.model self.now.theory) self.now.counts.switches (arranged T.Theory.kind (view T.Theory.kind T.Theory.model self.now)) r.literals) (store_of self.now.store) }
@@ -27,7 +27,7 @@ impl<T: Theory> Session<T> {
     }
 
     // Closes as possible, and hands out the arrangement that the trail makes.
-    pub fn claim(&mut self) -> Result<Arrangement, SessionFault>
+    pub(crate) fn claim(&mut self) -> Result<Arrangement, SessionFault>
         ensures { Claims T.Theory.kind T.Theory.model self.old result self.new }
     {
         if !self.phase.serves(Kind::Claim) {

@@ -1,20 +1,20 @@
 // The draft: counts, declare, admit, rule and seal.
 ghost use Rattle.std.specs.Prelude.{◌≡◌};
 ghost use Rattle.calculus.specs.Calls.Call.{Counts as to_count, Declare as to_declare, Admit as to_admit, Rule as to_rule, Seal as to_seal};
-ghost use Rattle.session.specs.Views.{Steps, Spends};
+ghost use Rattle.session.specs.Cores.{Steps, Spends};
 
 use super::counts::MOST_NUMBERS;
 use super::phase::{Kind, Phase};
-use super::{Permit, Session};
+use super::{Core, Permit};
 use calculus::Theory;
 use calculus::limits::MOST_DENOMINATOR;
 use faults::{InputCause, SessionFault, StateCause};
 use tables::clause::Clause;
 use tables::literals::{are_proper, is_clause_like};
 
-impl<T: Theory> Session<T> {
+impl<T: Theory> Core<T> {
     // Takes the counts of switches and measures, and opens the draft.
-    pub fn counts(&mut self, switches: u8, measures: u8) -> Result<Permit, SessionFault>
+    pub(crate) fn counts(&mut self, switches: u8, measures: u8) -> Result<Permit, SessionFault>
         ensures { Steps T.Theory.kind T.Theory.model self.old (to_count switches measures) result self.new }
     {
         if !self.phase.serves(Kind::Counts) {
@@ -30,7 +30,7 @@ impl<T: Theory> Session<T> {
     }
 
     // Hands a declaration to the theory.
-    pub fn declare(&mut self, _permit: &Permit, body: &[u8]) -> Result<(), SessionFault>
+    pub(crate) fn declare(&mut self, _permit: &Permit, body: &[u8]) -> Result<(), SessionFault>
         ensures { Steps T.Theory.kind T.Theory.model self.old (to_declare body.now) result self.new }
     {
         if !self.phase.serves(Kind::Declare) {
@@ -41,7 +41,7 @@ impl<T: Theory> Session<T> {
     }
 
     // Hands one atom more to the theory.
-    pub fn admit(&mut self, body: &[u8]) -> Result<(), SessionFault>
+    pub(crate) fn admit(&mut self, body: &[u8]) -> Result<(), SessionFault>
         ensures { Steps T.Theory.kind T.Theory.model self.old (to_admit body.now) result self.new }
     {
         if !self.phase.serves(Kind::Admit) {
@@ -56,7 +56,11 @@ impl<T: Theory> Session<T> {
     }
 
     // Ends the draft with the denominator of all values, and opens the search.
-    pub fn seal(&mut self, permit: Permit, denominator: u32) -> Result<(), (Permit, SessionFault)>
+    pub(crate) fn seal(
+        &mut self,
+        permit: Permit,
+        denominator: u32,
+    ) -> Result<(), (Permit, SessionFault)>
         ensures { Spends T.Theory.kind T.Theory.model self.old (to_seal denominator) permit result self.new }
     {
         if !self.phase.serves(Kind::Seal) {
@@ -72,7 +76,7 @@ impl<T: Theory> Session<T> {
 
     // Stores a clause that must be met. Its tests are those of a lemma: with the two behind one function, five goals of
     // theirs stayed open.
-    pub fn rule(&mut self, _permit: &Permit, literals: &[i8]) -> Result<(), SessionFault>
+    pub(crate) fn rule(&mut self, _permit: &Permit, literals: &[i8]) -> Result<(), SessionFault>
         ensures { Steps T.Theory.kind T.Theory.model self.old (to_rule literals.now) result self.new }
     {
         if !self.phase.serves(Kind::Rule) {

@@ -1,6 +1,6 @@
 // A session's whole life: a list of calls, good and bad, carried out one after the other.
 ghost use Rattle.std.specs.Prelude.{◌≡◌, map};
-ghost use Rattle.calculus.specs.Calls.Call.{Concede as to_concede, Conflict as to_conflict, Resolve as to_resolve};
+ghost use Rattle.calculus.specs.Calls.Call.{Concede as to_concede, Conflict as to_conflict, Jump as to_jump, Resolve as to_resolve};
 ghost use Rattle.calculus.specs.Sound.{Guarantees};
 ghost use Rattle.calculus.specs.Steps.{step, run};
 ghost use Rattle.session.specs.Orders.{call_of};
@@ -49,6 +49,15 @@ impl<T: Theory> Session<T> {
         let Conflict(_) = conflict;
     }
 
+    fn jump_once(&mut self, literal: i8)
+        ensures { view T.Theory.kind T.Theory.model self.new ≡ (step T.Theory.kind (view T.Theory.kind T.Theory.model self.old) (to_jump literal)).1 }
+    {
+        match self.jump(Conflict(0), literal) {
+            Ok(()) => {}
+            Err((Conflict(_), _)) => {}
+        }
+    }
+
     fn concede_now(&mut self)
         ensures { view T.Theory.kind T.Theory.model self.new ≡ (step T.Theory.kind (view T.Theory.kind T.Theory.model self.old) to_concede).1 }
     {
@@ -95,9 +104,7 @@ impl<T: Theory> Session<T> {
             }
             Order::Conflict(clause) => self.open_conflict(clause),
             Order::Resolve(number) => self.resolve_once(number),
-            Order::Jump(literal) => {
-                let _ = self.backjump(literal);
-            }
+            Order::Jump(literal) => self.jump_once(literal),
             Order::Concede => self.concede_now(),
             Order::Claim => {
                 let _ = self.claim();

@@ -9,9 +9,9 @@ ghost use Rattle.calculus.specs.Literals.{holds_literal};
 ghost use Rattle.calculus.specs.States.{clause as clause_at};
 ghost use Rattle.calculus.specs.Steps.{readable_in, others_false};
 ghost use Rattle.tables.specs.Tables.{trail_of, store_of};
-ghost use Rattle.session.specs.Views.{view, Steps};
+ghost use Rattle.session.specs.Cores.{view, Steps};
 
-use super::Session;
+use super::Core;
 use super::phase::Kind;
 use calculus::Theory;
 use calculus::limits::{is_numerator, is_within};
@@ -35,9 +35,9 @@ fn enter_value(trail: &mut Trail, measure: u8, numerator: i32)
     });
 }
 
-impl<T: Theory> Session<T> {
+impl<T: Theory> Core<T> {
     // Stores a clause that the theory vouches for. What it tests before that is said at the rule.
-    pub fn lemma(&mut self, literals: &[i8], hint: &[u8]) -> Result<(), SessionFault>
+    pub(crate) fn lemma(&mut self, literals: &[i8], hint: &[u8]) -> Result<(), SessionFault>
         ensures { Steps T.Theory.kind T.Theory.model self.old (to_lemma literals.now hint.now) result self.new }
     {
         if !self.phase.serves(Kind::Lemma) {
@@ -64,7 +64,7 @@ impl<T: Theory> Session<T> {
     }
 
     // Enters a literal as a decision. Propagate tests the number alike, and read asks the opposite: two lines each.
-    pub fn choose(&mut self, literal: i8) -> Result<(), SessionFault>
+    pub(crate) fn choose(&mut self, literal: i8) -> Result<(), SessionFault>
         ensures { Steps T.Theory.kind T.Theory.model self.old (to_choose literal) result self.new }
     {
         if !self.phase.serves(Kind::Choose) {
@@ -93,7 +93,7 @@ impl<T: Theory> Session<T> {
     }
 
     // Enters the value of a measure, as a decision.
-    pub fn set(&mut self, measure: u8, numerator: i32) -> Result<(), SessionFault>
+    pub(crate) fn set(&mut self, measure: u8, numerator: i32) -> Result<(), SessionFault>
         ensures { Steps T.Theory.kind T.Theory.model self.old (to_set measure numerator) result self.new }
     {
         if !self.phase.serves(Kind::Set) {
@@ -132,7 +132,7 @@ impl<T: Theory> Session<T> {
     }
 
     // Enters a literal that a clause forces.
-    pub fn propagate(&mut self, clause: u8, literal: i8) -> Result<(), SessionFault>
+    pub(crate) fn propagate(&mut self, clause: u8, literal: i8) -> Result<(), SessionFault>
         ensures { Steps T.Theory.kind T.Theory.model self.old (to_propagate clause literal) result self.new }
     {
         if !self.phase.serves(Kind::Propagate) {
@@ -178,7 +178,7 @@ impl<T: Theory> Session<T> {
     }
 
     // Enters an atom as the values make it.
-    pub fn read(&mut self, number: u8) -> Result<(), SessionFault>
+    pub(crate) fn read(&mut self, number: u8) -> Result<(), SessionFault>
         ensures { Steps T.Theory.kind T.Theory.model self.old (to_read number) result self.new }
     {
         if !self.phase.serves(Kind::Read) {

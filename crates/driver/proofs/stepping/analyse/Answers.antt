@@ -16,7 +16,7 @@ returns-in-Jump g c h =
     let d = call_of c.args.order in
     let f : SFits w8 c.in-Jump.literal = search rules in
     let j = jump_leads K (view K g.T.Theory.model s) (to_z w8 (of_z w8 c.in-Jump.literal)) in
-    let a = spending K g.met.T.Theory.lawful g.T.Theory.model s t d _ (ap call_of c.in-Jump.is ∙ ap Jump (sym (to_z-of_z f))) c.jump.ensures.1 Analysis c.args.conflict c.jump.result j c.jump.ensures.0 h in
+    let a = spending K g.met.T.Theory.lawful g.T.Theory.model s t d _ (ap call_of c.in-Jump.is ∙ ap Jump (sym (to_z-of_z f))) c.jump.ensures.steps.1 Analysis c.args.conflict c.jump.result j c.jump.ensures.steps.0 h in
     subst (λ x. Advances K g.T.Theory.model s d x t) (sym c.unless_back.ensures) a
 
 pub returns-in_default : goal.returns-in_default

@@ -10,10 +10,10 @@ use Rattle.calculus.specs.Steps.{step, others, all_read, arranged, top_of}
 use Rattle.calculus.specs.Steps.Reply.{Done}
 use Rattle.tables.specs.Tables.{trail_of, literals_of}
 use Rattle.tables.proofs.Narrowing.{abs_number}
-use Rattle.session.specs.Views.{tables_of, view}
+use Rattle.session.specs.Cores.{tables_of, view}
 use Rattle.session.proofs.Needing.{told}
 use Rattle.session.proofs.Jumping.{jump_low, jump_forced, jump_split}
-use Rattle.session.proofs.Session.backjump.Goals as goal
+use Rattle.session.proofs.Core.backjump.Goals as goal
 
 pub returns-then-not-is_top : goal.returns-then-not-is_top
 returns-then-not-is_top g c =

@@ -3,7 +3,7 @@ use Rattle.calculus.specs.States.{State}
 use Rattle.calculus.specs.Trails.Origin.{Chosen}
 use Rattle.tables.specs.Tables.{trail_of}
 use Rattle.tables.proofs.Dropping.{enters_again}
-use Rattle.session.proofs.Session.split.Goals as goal
+use Rattle.session.proofs.Core.force.Goals as goal
 
 pub push-requires-clause-off_trail : goal.push-requires-clause-off_trail
 push-requires-clause-off_trail g c =

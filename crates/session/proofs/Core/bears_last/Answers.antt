@@ -4,7 +4,7 @@ use Rattle.calculus.specs.Lists.{every}
 use Rattle.calculus.specs.Trails.{Entry, stays_true}
 use Rattle.tables.specs.Views.{entry_of, entries_of}
 use Rattle.tables.specs.Tables.{trail_of}
-use Rattle.session.proofs.Session.bears_last.Goals as goal
+use Rattle.session.proofs.Core.bears_last.Goals as goal
 
 pub returns-in-len1-up : goal.returns-in-len1-up
 returns-in-len1-up g c =

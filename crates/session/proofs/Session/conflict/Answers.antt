@@ -1,0 +1,9 @@
+use Rattle.calculus.specs.Calls.Call.{Conflict}
+use Rattle.calculus.proofs.Reaching.{reached_more, guaranteed_after}
+use Rattle.session.proofs.Session.conflict.Goals as goal
+
+pub invariant_of-self : goal.invariant_of-self
+invariant_of-self g c = record { reached = reached_more g.T.Theory.kind _ _ (Conflict c.args.clause) c.args.self.now.reached c.conflict.ensures.1 }
+
+pub returns : goal.returns
+returns g c = record { steps = c.conflict.ensures; sound = guaranteed_after g.T.Theory.kind g.met.T.Theory.lawful _ _ (Conflict c.args.clause) c.args.self.now.reached c.conflict.ensures.1 }

@@ -1,0 +1,19 @@
+use Rattle.std.proofs.Common.{ap, ◌∙◌, to_z-of_z}
+use Rattle.calculus.specs.Calls.Call.{Set}
+use Rattle.calculus.specs.Steps.{Outcome, step}
+use Rattle.calculus.proofs.Reaching.{reached_more, guaranteed_after}
+use Rattle.session.specs.Views.{view}
+use Rattle.session.proofs.Session.set.Goals as goal
+
+pub invariant_of-self : goal.invariant_of-self
+invariant_of-self g c =
+    let K = g.T.Theory.kind in
+    let same = ap (λ l. step K (view K g.T.Theory.model c.args.self.now) (Set c.args.measure l)) (to_z-of_z c.ranges.numerator) in
+    record { reached = reached_more K _ _ (Set c.args.measure c.args.numerator) c.args.self.now.reached (c.set.ensures.1 ∙ ap (λ (o : Outcome K). o.1) same) }
+
+pub returns : goal.returns
+returns g c =
+    let K = g.T.Theory.kind in
+    let same = ap (λ l. step K (view K g.T.Theory.model c.args.self.now) (Set c.args.measure l)) (to_z-of_z c.ranges.numerator) in
+    let e = c.set.ensures.1 ∙ ap (λ (o : Outcome K). o.1) same in
+    record { steps = (c.set.ensures.0 ∙ ap (λ (o : Outcome K). o.0) same, e); sound = guaranteed_after K g.met.T.Theory.lawful _ _ (Set c.args.measure c.args.numerator) c.args.self.now.reached e }
