@@ -3,3 +3,4 @@ pub mod Needing
 pub mod Jumping
 pub mod Claimed
 pub mod Reaching
+pub mod Setting

@@ -1,28 +1,22 @@
 -- How many choices the entries of a trail have.
-use Rattle.std.proofs.Common.{◌≡◌, ℕ, ◌+◌, ◌≤◌, Bool, true, false, cond, List, [], ◌∷◌, length, filter, refl, ap, ◌∙◌, arith}
-use Rattle.std.proofs.lemmas.List.{length-map}
-use Rattle.std.proofs.lemmas.List.Sums.{length-filter, count_by-le-length}
-use Rattle.calculus.specs.Trails.{choice, choices}
-use Rattle.tables.specs.declared.entry as code
+use mir.Val.{bool_byte}
+use Rattle.std.proofs.Common.{◌≡◌, ◌≤◌, Bool, true, false, cond, List, [], ◌∷◌, length, refl, arith}
+use Rattle.calculus.specs.Trails.{Entry, choice, choices}
 use Rattle.tables.specs.declared.trail.Trail.{Trail}
-use Rattle.tables.specs.Views.{entry_of, entries_of}
 use Rattle.tables.specs.Tables.{trail_of}
 use Rattle.tables.proofs.Tidying.{tidy_room}
 
-abbrev pub is_choice : code.Entry.Entry → Bool
-is_choice e = choice (entry_of e).content
+pub at_most_one : (b : Bool) → cond b 1 0 ≤ 1
+at_most_one true = omega arith
+at_most_one false = omega arith
 
-counted : (es : List code.Entry.Entry) → length (filter is_choice es) ≡ choices (entries_of es)
-counted [] = refl
-counted (e ∷ es) = go (is_choice e) (counted es)
-  where
-    go : (b : Bool) → length (filter is_choice es) ≡ choices (entries_of es) → length (cond b (e ∷ filter is_choice es) (filter is_choice es)) ≡ cond b 1 0 + choices (entries_of es)
-    go true h = omega (arith, h)
-    go false h = omega (arith, h)
+pub choices_few : (t : List Entry) → choices t ≤ length t
+choices_few [] = omega arith
+choices_few (e ∷ t) = omega (arith, at_most_one (choice e.content), choices_few t)
 
-module _ (t : Trail) (es : List code.Entry.Entry) (n : ℕ) (e : entries_of es ≡ trail_of t) (h : n ≡ length (filter is_choice es)) where
-  pub choices_counted : n ≡ choices (trail_of t)
-  choices_counted = h ∙ counted es ∙ ap choices e
+pub count_few : (t : Trail) → t.count ≤ 143
+count_few t = omega (arith, t.counted, choices_few (trail_of t), tidy_room (trail_of t) t.tidied)
 
-  pub choices_few : n ≤ 143
-  choices_few = omega (arith, h, length-filter is_choice es, count_by-le-length is_choice es, length-map es entry_of, ap length e, tidy_room (trail_of t) t.tidied)
+pub byte_of : (b : Bool) → bool_byte b ≡ cond b 1 0
+byte_of true = refl
+byte_of false = refl

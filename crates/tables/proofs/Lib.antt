@@ -8,3 +8,4 @@ pub mod Weighing
 pub mod Sifting
 pub mod Resolving
 pub mod Dropping
+pub mod Placing

@@ -89,6 +89,25 @@ tidy_prefix (e ∷ t) u h =
     let a = and_parts (ranged e.content) (free e.content (t ++ u)) b.0 in
     and_from _ _ (and_from _ _ a.0 (free_prefix e.content t u a.1)) (tidy_prefix t u b.1)
 
+middle : (P : Entry → Type 0) (t : List Entry) (e : Entry) (u : List Entry) → AllByRecursion P (t ++ e ∷ u) → P e
+middle P [] e u h = h.0
+middle P (f ∷ t) e u h = middle P t e u h.1
+
+-- an entry of a tidy trail may enter what stands before it
+pub tidy_enters : (t : List Entry) (e : Entry) (u : List Entry) → tidy (t ++ e ∷ u) ≡ true → (ranged e.content ≡ true) × (free e.content t ≡ true)
+tidy_enters [] e u h =
+    let b = and_parts (ranged e.content && free e.content u) (tidy u) h in
+    ((and_parts (ranged e.content) (free e.content u) b.0).0, apart_free e.content [] tt)
+tidy_enters (f ∷ t) e u h =
+    let b = and_parts (ranged f.content && free f.content (t ++ e ∷ u)) (tidy (t ++ e ∷ u)) h in
+    let a = and_parts (ranged f.content) (free f.content (t ++ e ∷ u)) b.0 in
+    let r = tidy_enters t e u b.1 in
+    (r.0, apart_free e.content (f ∷ t) (clash_flip e.content f.content (middle (λ g. clash g.content f.content ≡ false) t e u (free_apart f.content (t ++ e ∷ u) a.1)), free_apart e.content t r.1))
+
+-- what may enter a trail may enter its part up to a level
+pub free_up_to : (c : Content) (k : ℕ) (t : List Entry) → free c t ≡ true → free c (up_to k t) ≡ true
+free_up_to c k t h = apart_free c (up_to k t) (up_to_weaken (λ f. clash f.content c ≡ false) k t (free_apart c t h))
+
 ranged_known : (c : Content) → ranged c ≡ true → Known most_numbers most_measures c
 ranged_known (Value j x) h = (and_parts (within most_measures j) (sized most_numerator x) h).0
 ranged_known (Literal l o) h = h

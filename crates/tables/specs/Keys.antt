@@ -1,5 +1,6 @@
--- What holds of every trail: its numbers and measures are in range, and none of them stands twice.
-use Rattle.std.specs.Prelude.{Bool, true, not, ◌&&◌, List, [], ◌∷◌}
+-- What holds of every trail: its numbers and measures are in range, none of them stands twice, and each entry is found by its
+-- key.
+use Rattle.std.specs.Prelude.{ℕ, ◌+◌, ◌-◌, Bool, true, not, ◌&&◌, List, [], ◌∷◌, ◌==◌, slice_index_or}
 use Rattle.calculus.specs.Limits.{most_numbers, most_measures, most_numerator, within, sized}
 use Rattle.calculus.specs.Literals.{number}
 use Rattle.calculus.specs.Trails.{Content, Entry, taken, valued}
@@ -18,3 +19,13 @@ free (Literal l o) t = not (taken (number l) t)
 abbrev pub tidy : List Entry → Bool
 tidy [] = true
 tidy (e ∷ t) = (ranged e.content && free e.content t) && tidy t
+
+-- where the place of such a content is kept: under its number, and for a measure from 255 down
+abbrev pub key : Content → ℕ
+key (Value j x) = 255 - j
+key (Literal l o) = number l
+
+-- the places of the entries, counted from n, are kept under their keys; what is kept under another key says nothing
+abbrev pub placed : List ℕ → ℕ → List Entry → Bool
+placed places n [] = true
+placed places n (e ∷ t) = (slice_index_or places (key e.content) 0 == n) && placed places (n + 1) t

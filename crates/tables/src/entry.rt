@@ -1,6 +1,7 @@
 ghost use Rattle.std.specs.Prelude.{◌≡◌, MatchOption, neg_ℤ};
 ghost use Rattle.calculus.specs.Trails.{choice, affirms, concerns, values, numerator, was_read, reason};
 ghost use Rattle.tables.specs.Views.{entry_of};
+ghost use Rattle.tables.specs.Keys.{key as key_of};
 
 // How a literal came onto the trail: chosen, propagated by the clause of this number, or read off the values.
 #[derive(Clone, Copy)]
@@ -42,6 +43,16 @@ impl Entry {
     {
         match self {
             Entry::Value { level, .. } | Entry::Literal { level, .. } => level,
+        }
+    }
+
+    // Under what its place is kept.
+    pub fn key(self) -> u8
+        ensures { result ≡ key_of (entry_of self).content }
+    {
+        match self {
+            Entry::Value { measure, .. } => 255 - measure,
+            Entry::Literal { literal, .. } => literal.unsigned_abs(),
         }
     }
 

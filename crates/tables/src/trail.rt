@@ -1,6 +1,7 @@
-ghost use Rattle.std.specs.Prelude.{◌≡◌, true};
+ghost use Rattle.std.specs.Prelude.{◌≡◌, true, length};
+ghost use Rattle.calculus.specs.Trails.{choices as choices_of};
 ghost use Rattle.tables.specs.Views.{entries_of};
-ghost use Rattle.tables.specs.Keys.{tidy};
+ghost use Rattle.tables.specs.Keys.{tidy, placed};
 
 use crate::entry::Entry;
 use arrayvec::ArrayVec;
@@ -14,9 +15,19 @@ pub const MOST_ENTRIES: usize = 143;
 
 pub const MOST_MEASURES: usize = 16;
 
-// The trail, in the order of entry.
+// There are fewer keys than bytes.
+const KEYS: usize = 256;
+
+// The trail, in the order of entry. So that no look-up goes through it, the place of each entry is kept under the entry's
+// key, and the choices are counted. What is kept under the key of an entry that is gone is not taken away: a look-up tests
+// what it finds.
 #[derive(Drop)]
 pub struct Trail {
     entries: ArrayVec<Entry, MOST_ENTRIES>,
+    places: [u8; KEYS],
+    count: u8,
     ghost tidied: { tidy (entries_of entries.items) ≡ true },
+    ghost keyed: { length places ≡ 256 },
+    ghost found: { placed places 0 (entries_of entries.items) ≡ true },
+    ghost counted: { count ≡ choices_of (entries_of entries.items) },
 }

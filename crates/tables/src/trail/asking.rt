@@ -1,7 +1,8 @@
-ghost use Rattle.std.specs.Prelude.{◌≡◌, ◌<◌, ◌≤◌, MatchOption, Bool, neg_ℤ};
+ghost use Rattle.std.specs.Prelude.{◌≡◌, ◌<◌, ◌≤◌, true, MatchOption, Bool, neg_ℤ};
 ghost use Rattle.calculus.specs.Trails.{Content, entry_for, affirms, concerns, values, was_read, reason, on_trail, false_on, false_at, taken, valued, value, choices};
 ghost use Rattle.tables.specs.Views.{entry_of, entries_of, Finds};
 ghost use Rattle.tables.specs.Tables.{trail_of};
+ghost use Rattle.tables.specs.Keys.{key as key_of};
 
 use super::Trail;
 use crate::entry::Entry;
@@ -36,32 +37,43 @@ impl Trail {
         self.entries.as_slice()
     }
 
+    // The entry whose place is kept under the key, if it passes the test. Where a test passes nothing of another key, that is
+    // the first entry that passes.
+    fn at<F: Fn(Entry) -> bool>(&self, key: u8, test: F) -> Option<Entry>
+        requires { F.IsAlwaysCallable test }
+        ensures { (p : Content → Bool) → ((e : Entry) (b : Bool) → F.post test e b → b ≡ p (entry_of e).content) → ((c : Content) → p c ≡ true → key_of c ≡ key) → Finds p (trail_of self.now) result }
+    {
+        let place = usize::from(self.places[usize::from(key)]);
+        let entry = *self.entries.get(place)?;
+        if test(entry) { Some(entry) } else { None }
+    }
+
     // The entry on this number.
     pub fn find_number(&self, number: u8) -> Option<Entry>
         ensures { Finds (concerns number) (trail_of self.now) result }
     {
-        first(self.entries(), |e| e.concerns(number))
+        self.at(number, |e| e.concerns(number))
     }
 
     // The value for this measure.
     pub fn find_value(&self, measure: u8) -> Option<Entry>
         ensures { Finds (values measure) (trail_of self.now) result }
     {
-        find_value(self.entries(), measure)
+        self.at(255 - measure, |e| e.values(measure))
     }
 
     // The entry that affirms the literal.
     pub fn find_literal(&self, literal: i8) -> Option<Entry>
         ensures { Finds (affirms literal) (trail_of self.now) result }
     {
-        first(self.entries(), |e| e.affirms(literal))
+        self.at(literal.unsigned_abs(), |e| e.affirms(literal))
     }
 
     // The entry that makes the literal false.
     pub fn find_denial(&self, literal: i8) -> Option<Entry>
         ensures { Finds (affirms (neg_ℤ literal)) (trail_of self.now) result }
     {
-        first(self.entries(), |e| e.denies(literal))
+        self.at(literal.unsigned_abs(), |e| e.denies(literal))
     }
 
     // The number is on the trail, affirmed or denied.
@@ -74,7 +86,7 @@ impl Trail {
     pub fn is_valued(&self, measure: u8) -> bool
         ensures { result ≡ valued measure (trail_of self.now) }
     {
-        is_valued(self.entries(), measure)
+        self.find_value(measure).is_some()
     }
 
     // The numerator of the measure, or 0.
@@ -129,6 +141,6 @@ impl Trail {
         ensures count { result ≡ choices (trail_of self.now) }
         ensures bound { result ≤ 143 }
     {
-        self.entries().iter().filter(|e| e.is_choice()).count() as u8
+        self.count
     }
 }
