@@ -67,7 +67,7 @@ fn write_end(
 
 // Where the lines go, the session that the records are taken to, and room for the literals of one.
 #[derive(Drop)]
-struct Lister<'a, T> {
+struct Lister<'a, T: Theory> {
     rt: &'a HostRuntime,
     session: Session<T>,
     room: [i8; MOST_CASE_BYTES],
