@@ -1,5 +1,5 @@
 -- A question within the limits is answered by what it means.
-use Rattle.std.proofs.Common.{◌≡◌, ℕ, zero, suc, ◌+◌, ◌<◌, ◌≤◌, max, Bool, true, false, cond, not, ◌&&◌, ◌||◌, ltb, leb, List, [], ◌∷◌, map, ℤ, sym, refl, ap, ◌∙◌, arith}
+use Rattle.std.proofs.Common.{◌≡◌, ℕ, zero, suc, ◌+◌, ◌<◌, ◌≤◌, max, Bool, true, false, cond, not, ◌&&◌, ◌||◌, ltb, leb, List, [], ◌∷◌, map, filter, ℤ, sym, refl, ap, ◌∙◌, arith}
 use Rattle.std.specs.List.{range_with_len, AllByRecursion}
 use Rattle.std.proofs.lemmas.List.FromFn.{length-map-range_with_len}
 use Rattle.std.proofs.lemmas.List.Folds.{list_all-map}
@@ -8,10 +8,11 @@ use Rattle.calculus.specs.Lists.{every, highest}
 use Rattle.calculus.specs.Limits.{most_denominator, most_measures, most_numerator, within, sized}
 use Rattle.calculus.specs.Kinds.{Kind, Lawful}
 use Rattle.calculus.specs.Questions.{in_limits, says_mentioned, says_true}
-use Rattle.calculus.specs.Trails.{Entry, Content, entry_for, values, value, numerator, numerators}
+use Rattle.calculus.specs.Trails.{Entry, Content, entry_for, values, valued, value, numerator, numerators}
 use Rattle.calculus.specs.Trails.Content.{Value, Literal}
 use Rattle.tables.specs.Keys.{ranged, tidy}
 use Rattle.tables.proofs.Tidying.{tidy_ranged}
+use Rattle.tables.proofs.Weighing.{every_kept}
 
 module _ (K : Kind) (lawful : Lawful K) (m : K.Model) where
   -- of a measure that there is
@@ -70,6 +71,17 @@ highest_map f (x ∷ xs) = ap (max (f x)) (highest_map f xs)
 highest_over : (f g : ℕ → ℕ) (t : ℕ) → ((j : ℕ) → within t j ≡ true → f j ≡ g j) → highest f (range_with_len 1 t) ≡ highest g (range_with_len 1 t)
 highest_over f g t e = sym (highest_map f (range_with_len 1 t)) ∙ ap (highest (λ n. n)) (same_over f g t e) ∙ highest_map g (range_with_len 1 t)
 
+or_not : (v s : Bool) → (not (not v) || not s) ≡ (not s || v)
+or_not true true = refl
+or_not true false = refl
+or_not false true = refl
+or_not false false = refl
+
+pub or_swap : (a b c : Bool) → (a || (b || c)) ≡ (b || (a || c))
+or_swap true true c = refl
+or_swap true false c = refl
+or_swap false b c = refl
+
 -- the questions about each measure, answered by what they mean
 module _ (K : Kind) (lawful : Lawful K) (m : K.Model) (a n : ℕ) (h : n ≡ K.measures m) where
   pub settled_so : (p : ℕ → Bool) → every (λ j. not (says_mentioned K m a j) || p j) (range_with_len 1 n) ≡ every (λ j. not (K.mentioned m a j) || p j) (range_with_len 1 (K.measures m))
@@ -81,3 +93,11 @@ module _ (K : Kind) (lawful : Lawful K) (m : K.Model) (a n : ℕ) (h : n ≡ K.m
   levels_so f =
       ap (λ k. highest (λ j. cond (says_mentioned K m a j) (f j) 0) (range_with_len 1 k)) h
       ∙ highest_over (λ j. cond (says_mentioned K m a j) (f j) 0) (λ j. cond (K.mentioned m a j) (f j) 0) (K.measures m) (λ j w. ap (λ b. cond b (f j) 0) (mentioned_so K lawful m a j w))
+
+  -- none of those without a value is mentioned
+  pub none_so : (t : List Entry) (js : List ℕ) → js ≡ filter (λ j. not (valued j t)) (range_with_len 1 (K.measures m)) → every (λ j. not (says_mentioned K m a j)) js ≡ every (λ j. not (K.mentioned m a j) || valued j t) (range_with_len 1 (K.measures m))
+  none_so t js e =
+      ap (every (λ j. not (says_mentioned K m a j))) e
+      ∙ every_kept (λ j. not (says_mentioned K m a j)) (λ j. not (valued j t)) (range_with_len 1 (K.measures m))
+      ∙ every_over (λ j. not (not (valued j t)) || not (says_mentioned K m a j)) (λ j. not (K.mentioned m a j) || valued j t) (K.measures m)
+      (λ j w. or_not (valued j t) (says_mentioned K m a j) ∙ ap (λ b. not b || valued j t) (mentioned_so K lawful m a j w))

@@ -2,19 +2,20 @@
 // those behind them the atoms of the theory.
 #![tactic(auto)]
 
-ghost use Rattle.std.specs.Prelude.{◌≡◌, ℕ, ◌-◌, Bool, true, not, ◌||◌, ℤ, if◌then◌else◌};
+ghost use Rattle.std.specs.Prelude.{◌≡◌, ℕ, ◌-◌, Bool, true, not, ◌||◌, List, ℤ, filter, if◌then◌else◌};
 ghost use Rattle.std.specs.List.{range_with_len};
 ghost use Rattle.calculus.specs.Lists.{every, highest};
 ghost use Rattle.calculus.specs.Limits.{most_denominator, within};
-ghost use Rattle.calculus.specs.Questions.{says_mentioned};
-ghost use Rattle.calculus.specs.Trails.{entry_for, values, valued, numerators, readable, reading_level, by_values, stays_true};
+ghost use Rattle.calculus.specs.Literals.{signed};
+ghost use Rattle.calculus.specs.Questions.{in_limits, says_mentioned};
+ghost use Rattle.calculus.specs.Trails.{Entry as Trailed, entry_for, values, valued, numerators as numerators_of, readable, reading_level, by_values, stays_true};
 ghost use Rattle.tables.specs.Views.{entry_of, entries_of};
 ghost use Rattle.tables.specs.Tables.{trail_of};
 
 use calculus::Theory;
 use tables::entry::Entry;
 use tables::trail::Trail;
-use tables::trail::asking::is_valued;
+use tables::trail::asking::unvalued;
 
 // The atoms of a theory, under their numbers behind the switches.
 #[derive(Drop)]
@@ -32,26 +33,34 @@ pub struct Reading<'a, T> {
 }
 
 impl<T: Theory> Atoms<'_, T> {
-    // The atom does not mention the measure, or the measure has a value.
-    fn is_settled(&self, entries: &[Entry], atom: u8, measure: u8) -> bool
-        ensures { result ≡ (not (says_mentioned T.Theory.kind (T.Theory.model self.now.theory.now) atom measure) || valued measure (entries_of entries.now)) }
-    {
-        !self.theory.mentions(atom, measure) || is_valued(entries, measure)
-    }
-
     // All measures that the atom mentions have values.
-    fn are_settled(&self, entries: &[Entry], atom: u8) -> bool
-        ensures { result ≡ every (λ j. not (T.Theory.kind.mentioned (T.Theory.model self.now.theory.now) atom j) || valued j (entries_of entries.now)) (range_with_len 1 (T.Theory.kind.measures (T.Theory.model self.now.theory.now))) }
+    fn are_settled(&self, trail: &Trail, atom: u8) -> bool
+        ensures { result ≡ every (λ j. not (T.Theory.kind.mentioned (T.Theory.model self.now.theory.now) atom j) || valued j (trail_of trail.now)) (range_with_len 1 (T.Theory.kind.measures (T.Theory.model self.now.theory.now))) }
     {
         let measures = self.theory.measures();
-        (1..measures + 1).all(|j| self.is_settled(entries, atom, j))
+        (1..measures + 1).all(|j| !self.theory.mentions(atom, j) || trail.is_valued(j))
     }
 
     // The number is an atom, and all measures that it mentions have values.
-    pub fn is_readable(&self, entries: &[Entry], number: u8) -> bool
-        ensures { result ≡ readable T.Theory.kind (T.Theory.model self.now.theory.now) self.now.switches (entries_of entries.now) number }
+    pub fn is_readable(&self, trail: &Trail, number: u8) -> bool
+        ensures { result ≡ readable T.Theory.kind (T.Theory.model self.now.theory.now) self.now.switches (trail_of trail.now) number }
     {
-        self.switches < number && self.are_settled(entries, number.saturating_sub(self.switches))
+        self.switches < number && self.are_settled(trail, number.saturating_sub(self.switches))
+    }
+
+    // The atom mentions none of these measures. Where they are all that have no value, that says that all that it mentions
+    // have one.
+    fn mentions_none(&self, unvalued: &[u8], atom: u8) -> bool
+        ensures { (t : List Trailed) → unvalued.now ≡ filter (λ j. not (valued j t)) (range_with_len 1 (T.Theory.kind.measures (T.Theory.model self.now.theory.now))) → result ≡ every (λ j. not (T.Theory.kind.mentioned (T.Theory.model self.now.theory.now) atom j) || valued j t) (range_with_len 1 (T.Theory.kind.measures (T.Theory.model self.now.theory.now))) }
+    {
+        unvalued.iter().all(|j| !self.theory.mentions(atom, *j))
+    }
+
+    // The number is an atom that mentions none of these measures: it is readable, where they are all that have no value.
+    fn is_readable_but(&self, unvalued: &[u8], number: u8) -> bool
+        ensures { (t : List Trailed) → unvalued.now ≡ filter (λ j. not (valued j t)) (range_with_len 1 (T.Theory.kind.measures (T.Theory.model self.now.theory.now))) → result ≡ readable T.Theory.kind (T.Theory.model self.now.theory.now) self.now.switches t number }
+    {
+        self.switches < number && self.mentions_none(unvalued, number.saturating_sub(self.switches))
     }
 
     // The level of the measure's value, where the atom mentions it; else 0.
@@ -76,43 +85,59 @@ impl<T: Theory> Atoms<'_, T> {
 }
 
 impl<T: Theory> Reading<'_, T> {
-    // The atom is true of the values.
-    fn is_atom_true(&self, trail: &Trail, atom: u8) -> bool
-        ensures { result ≡ T.Theory.kind.truth (T.Theory.model self.now.atoms.theory.now) atom (numerators T.Theory.kind (T.Theory.model self.now.atoms.theory.now) (trail_of trail.now)) self.now.denominator }
+    // The atom is true of these numerators.
+    fn is_atom_true(&self, numerators: &[i32], atom: u8) -> bool
+        ensures { in_limits (T.Theory.kind.measures (T.Theory.model self.now.atoms.theory.now)) numerators.now self.now.denominator ≡ true → result ≡ T.Theory.kind.truth (T.Theory.model self.now.atoms.theory.now) atom numerators.now self.now.denominator }
     {
-        let theory = self.atoms.theory;
-        let numerators = trail.numerators(theory.measures());
-        theory.holds(atom, numerators.as_slice(), self.denominator)
+        self.atoms.theory.holds(atom, numerators, self.denominator)
+    }
+
+    // These numerators make the literal true.
+    fn is_true_of(&self, numerators: &[i32], literal: i8) -> bool
+        ensures { in_limits (T.Theory.kind.measures (T.Theory.model self.now.atoms.theory.now)) numerators.now self.now.denominator ≡ true → result ≡ signed literal (λ n. T.Theory.kind.truth (T.Theory.model self.now.atoms.theory.now) (n - self.now.atoms.switches) numerators.now self.now.denominator) }
+    {
+        let atom = literal.unsigned_abs().saturating_sub(self.atoms.switches);
+        let is_atom = self.is_atom_true(numerators, atom);
+        if literal < 0 { !is_atom } else { is_atom }
     }
 
     // The values make the literal true.
     pub fn is_true(&self, trail: &Trail, literal: i8) -> bool
         ensures { result ≡ by_values T.Theory.kind (T.Theory.model self.now.atoms.theory.now) self.now.atoms.switches self.now.denominator (trail_of trail.now) literal }
     {
-        let atom = literal.unsigned_abs().saturating_sub(self.atoms.switches);
-        let is_atom = self.is_atom_true(trail, atom);
-        if literal < 0 { !is_atom } else { is_atom }
+        let numerators = trail.numerators(self.atoms.theory.measures());
+        self.is_true_of(numerators.as_slice(), literal)
     }
 
-    // A literal that becomes readable from the old entries to the new trail is true on that.
-    fn stays_true(&self, old: &[Entry], new: &Trail, entry: Entry) -> bool
-        ensures { result ≡ stays_true T.Theory.kind (T.Theory.model self.now.atoms.theory.now) self.now.atoms.switches self.now.denominator (entries_of old.now) (trail_of new.now) (entry_of entry).content }
+    // Where the first measures are all that had no value, the second all that have none now, and the numerators those of
+    // now: a literal that becomes readable is true.
+    fn stays_true(&self, before: &[u8], after: &[u8], numerators: &[i32], entry: Entry) -> bool
+        ensures { (t u : List Trailed) → before.now ≡ filter (λ j. not (valued j t)) (range_with_len 1 (T.Theory.kind.measures (T.Theory.model self.now.atoms.theory.now))) → after.now ≡ filter (λ j. not (valued j u)) (range_with_len 1 (T.Theory.kind.measures (T.Theory.model self.now.atoms.theory.now))) → numerators.now ≡ numerators_of T.Theory.kind (T.Theory.model self.now.atoms.theory.now) u → in_limits (T.Theory.kind.measures (T.Theory.model self.now.atoms.theory.now)) numerators.now self.now.denominator ≡ true → result ≡ stays_true T.Theory.kind (T.Theory.model self.now.atoms.theory.now) self.now.atoms.switches self.now.denominator t u (entry_of entry).content }
     {
         match entry {
             Entry::Value { .. } => true,
             Entry::Literal { literal, .. } => {
                 let number = literal.unsigned_abs();
-                self.atoms.is_readable(old, number)
-                    || !self.atoms.is_readable(new.entries(), number)
-                    || self.is_true(new, literal)
+                !self.atoms.is_readable_but(after, number)
+                    || self.atoms.is_readable_but(before, number)
+                    || self.is_true_of(numerators, literal)
             }
         }
     }
 
-    // Every literal of the old entries that becomes readable on the new trail is true on it.
+    // Every literal of the old entries that becomes readable on the new trail is true on it. What has no value, and the
+    // numerators, are asked once for all of them.
     pub fn bears(&self, old: &[Entry], new: &Trail) -> bool
         ensures { result ≡ every (λ e. stays_true T.Theory.kind (T.Theory.model self.now.atoms.theory.now) self.now.atoms.switches self.now.denominator (entries_of old.now) (trail_of new.now) e.content) (entries_of old.now) }
     {
-        old.iter().all(|e| self.stays_true(old, new, *e))
+        let measures = self.atoms.theory.measures();
+        let unvalued_then = unvalued(old, measures);
+        let unvalued_now = new.unvalued(measures);
+        let numerators_now = new.numerators(measures);
+        let before = unvalued_then.as_slice();
+        let after = unvalued_now.as_slice();
+        let numerators = numerators_now.as_slice();
+        old.iter()
+            .all(|e| self.stays_true(before, after, numerators, *e))
     }
 }

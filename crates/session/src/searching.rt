@@ -174,7 +174,7 @@ impl<T: Theory> Core<T> {
     fn is_readable(&self, number: u8) -> bool
         ensures { result ≡ readable_in T.Theory.kind (view T.Theory.kind T.Theory.model self.now) number }
     {
-        self.atoms().is_readable(self.trail.entries(), number)
+        self.atoms().is_readable(&self.trail, number)
     }
 
     // Enters an atom as the values make it.

@@ -1,33 +1,50 @@
-ghost use Rattle.std.specs.Prelude.{◌≡◌, ◌<◌, ◌≤◌, true, MatchOption, Bool, neg_ℤ};
+ghost use Rattle.std.specs.Prelude.{◌≡◌, ℕ, ◌<◌, ◌≤◌, true, false, MatchOption, Bool, not, neg_ℤ, length, filter, slice_index_or};
+ghost use Rattle.std.specs.List.{range_with_len};
 ghost use Rattle.calculus.specs.Trails.{Content, entry_for, affirms, concerns, values, was_read, reason, on_trail, false_on, false_at, taken, valued, value, choices};
 ghost use Rattle.tables.specs.Views.{entry_of, entries_of, Finds};
 ghost use Rattle.tables.specs.Tables.{trail_of};
 ghost use Rattle.tables.specs.Keys.{key as key_of};
 
-use super::Trail;
+use super::{KEYS, MOST_MEASURES, Trail};
 use crate::entry::Entry;
+use arrayvec::ArrayVec;
 
-// The first of the entries that passes the test. What is asked of a test given as a closure, and what its answers tell,
-// is the clause itself, here and at its like.
-fn first<F: Fn(Entry) -> bool>(entries: &[Entry], test: F) -> Option<Entry>
-    requires { F.IsAlwaysCallable test }
-    ensures { (p : Content → Bool) → ((e : Entry) (b : Bool) → F.post test e b → b ≡ p (entry_of e).content) → Finds p (entries_of entries.now) result }
+// For each measure, whether it has a value among the entries.
+fn valued_table(entries: &[Entry]) -> [bool; KEYS]
+    ensures long { length result ≡ 256 }
+    ensures told { (j : ℕ) → j < 256 → slice_index_or result j false ≡ valued j (entries_of entries.now) }
 {
-    entries.iter().find(|e| test(**e)).copied()
+    let mut table = [false; KEYS];
+    for entry in entries {
+        if let Entry::Value { measure, .. } = *entry {
+            table[usize::from(measure)] = true;
+        }
+    }
+    table
 }
 
-// The first of the entries that is a value for this measure.
-fn find_value(entries: &[Entry], measure: u8) -> Option<Entry>
-    ensures { Finds (values measure) (entries_of entries.now) result }
+// The measures up to this one that pass the test, in their order.
+fn those<F: Fn(u8) -> bool>(measures: u8, test: F) -> ArrayVec<u8, MOST_MEASURES>
+    requires few { measures ≤ 16 }
+    requires callable { F.IsAlwaysCallable test }
+    ensures { (p : ℕ → Bool) → ((j : ℕ) (b : Bool) → F.post test j b → b ≡ p j) → result.items ≡ filter p (range_with_len 1 measures) }
 {
-    first(entries, |e| e.values(measure))
+    let mut those = ArrayVec::new();
+    for j in 1..measures + 1 {
+        if test(j) {
+            those.push(j);
+        }
+    }
+    those
 }
 
-// One of the entries is a value for this measure.
-pub fn is_valued(entries: &[Entry], measure: u8) -> bool
-    ensures { result ≡ valued measure (entries_of entries.now) }
+// The measures up to this one that have no value among the entries, in their order. The entries are gone through once.
+pub fn unvalued(entries: &[Entry], measures: u8) -> ArrayVec<u8, MOST_MEASURES>
+    requires { measures ≤ 16 }
+    ensures { result.items ≡ filter (λ j. not (valued j (entries_of entries.now))) (range_with_len 1 measures) }
 {
-    find_value(entries, measure).is_some()
+    let table = valued_table(entries);
+    those(measures, |j| !table[usize::from(j)])
 }
 
 impl Trail {
@@ -38,7 +55,8 @@ impl Trail {
     }
 
     // The entry whose place is kept under the key, if it passes the test. Where a test passes nothing of another key, that is
-    // the first entry that passes.
+    // the first entry that passes. What is asked of a test given as a closure, and what its answers tell, is the clause
+    // itself, here and at its like.
     fn at<F: Fn(Entry) -> bool>(&self, key: u8, test: F) -> Option<Entry>
         requires { F.IsAlwaysCallable test }
         ensures { (p : Content → Bool) → ((e : Entry) (b : Bool) → F.post test e b → b ≡ p (entry_of e).content) → ((c : Content) → p c ≡ true → key_of c ≡ key) → Finds p (trail_of self.now) result }
@@ -87,6 +105,14 @@ impl Trail {
         ensures { result ≡ valued measure (trail_of self.now) }
     {
         self.find_value(measure).is_some()
+    }
+
+    // The measures up to this one that have no value, in their order.
+    pub fn unvalued(&self, measures: u8) -> ArrayVec<u8, MOST_MEASURES>
+        requires { measures ≤ 16 }
+        ensures { result.items ≡ filter (λ j. not (valued j (trail_of self.now))) (range_with_len 1 measures) }
+    {
+        those(measures, |j| !self.is_valued(j))
     }
 
     // The numerator of the measure, or 0.
