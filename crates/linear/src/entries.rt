@@ -113,11 +113,19 @@ impl Entries {
         sum
     }
 
-    // Whether an entry is on the measure.
+    // Whether the entry at the place that the measure has in a row of all measures is on it.
+    fn stands_in_place(&self, measure: u8) -> bool
+        ensures { result ≡ true → some (λ e. nat_eq e.measure measure) self.now.items.items ≡ true }
+    {
+        let place = usize::from(measure).saturating_sub(1);
+        self.items.get(place).is_some_and(|e| e.measure == measure)
+    }
+
+    // Whether an entry is on the measure. In a row of many measures it mostly stands in its place.
     pub fn mentions(&self, measure: u8) -> bool
         ensures { result ≡ some (λ e. nat_eq e.measure measure) self.now.items.items }
     {
-        self.items.iter().any(|e| e.measure == measure)
+        self.stands_in_place(measure) || self.items.iter().any(|e| e.measure == measure)
     }
 
     // All signs turned. They are pushed one by one: `from_iter` wants an allocator.

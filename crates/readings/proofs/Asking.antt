@@ -3,12 +3,14 @@ use Rattle.std.proofs.Common.{◌≡◌, ℕ, zero, suc, ◌+◌, ◌<◌, ◌�
 use Rattle.std.specs.List.{range_with_len, AllByRecursion}
 use Rattle.std.proofs.lemmas.List.FromFn.{length-map-range_with_len}
 use Rattle.std.proofs.lemmas.List.Folds.{list_all-map}
-use Rattle.std.proofs.lemmas.Bool.{and_parts, and_from, ltb-true, lt-ltb, le-leb, eq-eqb, cond_both}
+use Rattle.std.proofs.lemmas.Bool.{and_parts, and_from, ltb-true, lt-ltb, le-leb, eq-eqb, cond_both, or_left, or_right}
 use Rattle.calculus.specs.Lists.{every, highest}
 use Rattle.calculus.specs.Limits.{most_denominator, most_measures, most_numerator, within, sized}
 use Rattle.calculus.specs.Kinds.{Kind, Lawful}
+use Rattle.calculus.specs.Literals.{number}
+use Rattle.readings.specs.Unread.{unread}
 use Rattle.calculus.specs.Questions.{in_limits, says_mentioned, says_true}
-use Rattle.calculus.specs.Trails.{Entry, Content, entry_for, values, valued, value, numerator, numerators}
+use Rattle.calculus.specs.Trails.{Entry, Content, entry_for, values, valued, value, numerator, numerators, readable, stays_true}
 use Rattle.calculus.specs.Trails.Content.{Value, Literal}
 use Rattle.tables.specs.Keys.{ranged, tidy}
 use Rattle.tables.proofs.Tidying.{tidy_ranged}
@@ -77,10 +79,11 @@ or_not true false = refl
 or_not false true = refl
 or_not false false = refl
 
-pub or_swap : (a b c : Bool) → (a || (b || c)) ≡ (b || (a || c))
-or_swap true true c = refl
-or_swap true false c = refl
-or_swap false b c = refl
+or_comm : (a b : Bool) → (a || b) ≡ (b || a)
+or_comm true true = refl
+or_comm true false = refl
+or_comm false true = refl
+or_comm false false = refl
 
 -- the questions about each measure, answered by what they mean
 module _ (K : Kind) (lawful : Lawful K) (m : K.Model) (a n : ℕ) (h : n ≡ K.measures m) where
@@ -88,6 +91,10 @@ module _ (K : Kind) (lawful : Lawful K) (m : K.Model) (a n : ℕ) (h : n ≡ K.m
   settled_so p =
       ap (λ k. every (λ j. not (says_mentioned K m a j) || p j) (range_with_len 1 k)) h
       ∙ every_over (λ j. not (says_mentioned K m a j) || p j) (λ j. not (K.mentioned m a j) || p j) (K.measures m) (λ j w. ap (λ b. not b || p j) (mentioned_so K lawful m a j w))
+
+  -- asked the other way round
+  pub settled_other : (p : ℕ → Bool) → every (λ j. p j || not (says_mentioned K m a j)) (range_with_len 1 n) ≡ every (λ j. not (K.mentioned m a j) || p j) (range_with_len 1 (K.measures m))
+  settled_other p = every_over (λ j. p j || not (says_mentioned K m a j)) (λ j. not (says_mentioned K m a j) || p j) n (λ j w. or_comm (p j) (not (says_mentioned K m a j))) ∙ settled_so p
 
   pub levels_so : (f : ℕ → ℕ) → highest (λ j. cond (says_mentioned K m a j) (f j) 0) (range_with_len 1 n) ≡ highest (λ j. cond (K.mentioned m a j) (f j) 0) (range_with_len 1 (K.measures m))
   levels_so f =
@@ -101,3 +108,14 @@ module _ (K : Kind) (lawful : Lawful K) (m : K.Model) (a n : ℕ) (h : n ≡ K.m
       ∙ every_kept (λ j. not (says_mentioned K m a j)) (λ j. not (valued j t)) (range_with_len 1 (K.measures m))
       ∙ every_over (λ j. not (not (valued j t)) || not (says_mentioned K m a j)) (λ j. not (K.mentioned m a j) || valued j t) (K.measures m)
       (λ j w. or_not (valued j t) (says_mentioned K m a j) ∙ ap (λ b. not b || valued j t) (mentioned_so K lawful m a j w))
+
+-- what is not readable stays true
+unread_stays : (K : Kind) (m : K.Model) (w d : ℕ) (t u : List Entry) (c : Content) → unread K m w u c ≡ true → stays_true K m w d t u c ≡ true
+unread_stays K m w d t u (Value j x) h = refl
+unread_stays K m w d t u (Literal l o) h = or_right (readable K m w t (number l)) _ (or_left (not (readable K m w u (number l))) _ h)
+
+pub all_unread : (K : Kind) (m : K.Model) (w d : ℕ) (t u es : List Entry) → every (λ e. unread K m w u e.content) es ≡ true → every (λ e. stays_true K m w d t u e.content) es ≡ true
+all_unread K m w d t u [] h = refl
+all_unread K m w d t u (e ∷ es) h =
+    let b = and_parts (unread K m w u e.content) (every (λ f. unread K m w u f.content) es) h in
+    and_from _ _ (unread_stays K m w d t u e.content b.0) (all_unread K m w d t u es b.1)

@@ -11,6 +11,7 @@ ghost use Rattle.calculus.specs.Questions.{in_limits, says_mentioned};
 ghost use Rattle.calculus.specs.Trails.{Entry as Trailed, entry_for, values, valued, numerators as numerators_of, readable, reading_level, by_values, stays_true};
 ghost use Rattle.tables.specs.Views.{entry_of, entries_of};
 ghost use Rattle.tables.specs.Tables.{trail_of};
+ghost use Rattle.readings.specs.Unread.{unread};
 
 use calculus::Theory;
 use tables::entry::Entry;
@@ -38,7 +39,7 @@ impl<T: Theory> Atoms<'_, T> {
         ensures { result ≡ every (λ j. not (T.Theory.kind.mentioned (T.Theory.model self.now.theory.now) atom j) || valued j (trail_of trail.now)) (range_with_len 1 (T.Theory.kind.measures (T.Theory.model self.now.theory.now))) }
     {
         let measures = self.theory.measures();
-        (1..measures + 1).all(|j| !self.theory.mentions(atom, j) || trail.is_valued(j))
+        (1..measures + 1).all(|j| trail.is_valued(j) || !self.theory.mentions(atom, j))
     }
 
     // The number is an atom, and all measures that it mentions have values.
@@ -125,19 +126,39 @@ impl<T: Theory> Reading<'_, T> {
         }
     }
 
-    // Every literal of the old entries that becomes readable on the new trail is true on it. What has no value, and the
+    // The entry is a value or a literal that is not readable, where these measures are all that have no value.
+    fn is_unread(&self, unvalued: &[u8], entry: Entry) -> bool
+        ensures { (t : List Trailed) → unvalued.now ≡ filter (λ j. not (valued j t)) (range_with_len 1 (T.Theory.kind.measures (T.Theory.model self.now.atoms.theory.now))) → result ≡ unread T.Theory.kind (T.Theory.model self.now.atoms.theory.now) self.now.atoms.switches t (entry_of entry).content }
+    {
+        match entry {
+            Entry::Value { .. } => true,
+            Entry::Literal { literal, .. } => {
+                !self.atoms.is_readable_but(unvalued, literal.unsigned_abs())
+            }
+        }
+    }
+
+    // Where some literals are readable: each of the old entries that becomes so is true. What had no value, and the
     // numerators, are asked once for all of them.
-    pub fn bears(&self, old: &[Entry], new: &Trail) -> bool
-        ensures { result ≡ every (λ e. stays_true T.Theory.kind (T.Theory.model self.now.atoms.theory.now) self.now.atoms.switches self.now.denominator (entries_of old.now) (trail_of new.now) e.content) (entries_of old.now) }
+    fn bears_some(&self, old: &[Entry], new: &Trail, after: &[u8]) -> bool
+        ensures { after.now ≡ filter (λ j. not (valued j (trail_of new.now))) (range_with_len 1 (T.Theory.kind.measures (T.Theory.model self.now.atoms.theory.now))) → result ≡ every (λ e. stays_true T.Theory.kind (T.Theory.model self.now.atoms.theory.now) self.now.atoms.switches self.now.denominator (entries_of old.now) (trail_of new.now) e.content) (entries_of old.now) }
     {
         let measures = self.atoms.theory.measures();
         let unvalued_then = unvalued(old, measures);
-        let unvalued_now = new.unvalued(measures);
         let numerators_now = new.numerators(measures);
         let before = unvalued_then.as_slice();
-        let after = unvalued_now.as_slice();
         let numerators = numerators_now.as_slice();
         old.iter()
             .all(|e| self.stays_true(before, after, numerators, *e))
+    }
+
+    // Every literal of the old entries that becomes readable on the new trail is true on it. Mostly none is readable, which
+    // is quick to see.
+    pub fn bears(&self, old: &[Entry], new: &Trail) -> bool
+        ensures { result ≡ every (λ e. stays_true T.Theory.kind (T.Theory.model self.now.atoms.theory.now) self.now.atoms.switches self.now.denominator (entries_of old.now) (trail_of new.now) e.content) (entries_of old.now) }
+    {
+        let unvalued_now = new.unvalued(self.atoms.theory.measures());
+        let after = unvalued_now.as_slice();
+        old.iter().all(|e| self.is_unread(after, *e)) || self.bears_some(old, new, after)
     }
 }
