@@ -1,5 +1,5 @@
 // The entries of a row, with sums and tests over them.
-ghost use Rattle.std.specs.Prelude.{◌≡◌, ℕ, ◌+◌, ◌<◌, ◌≤◌, true, [], ◌∷◌, ◌++◌, map, length, pos, ◌+ℤ◌, ◌*ℤ◌, nat_eq, slice_index_or, unsigned_abs};
+ghost use Rattle.std.specs.Prelude.{◌≡◌, ℕ, ◌+◌, ◌<◌, ◌≤◌, true, false, [], ◌∷◌, ◌++◌, map, length, pos, ◌+ℤ◌, ◌*ℤ◌, nat_eq, slice_index_or, unsigned_abs};
 ghost use Rattle.calculus.specs.Limits.{sized, most_measures, most_numerator};
 ghost use Rattle.rows.specs.Bounds.{most_size};
 ghost use Rattle.calculus.specs.Lists.{every, some};
@@ -15,6 +15,11 @@ use rows::Entry;
 
 // A sum for each measure.
 pub type Sums = [i128; 256];
+
+// A flag for each measure, which are counted from 1.
+const FLAGS: usize = 17;
+
+pub type Flags = [bool; FLAGS];
 
 // A product of a number in its range and one of the size of a sum of coefficients.
 pub fn product(a: i32, b: i32) -> i64
@@ -114,19 +119,26 @@ impl Entries {
         }
     }
 
-    // Whether the entry at the place that the measure has in a row of all measures is on it.
-    fn stands_in_place(&self, measure: u8) -> bool
-        ensures { result ≡ true → some (λ e. nat_eq e.measure measure) self.now.items.items ≡ true }
-    {
-        let place = usize::from(measure).saturating_sub(1);
-        self.items.get(place).is_some_and(|e| e.measure == measure)
-    }
-
-    // Whether an entry is on the measure. In a row of many measures it mostly stands in its place.
+    // Whether an entry is on the measure.
     pub fn mentions(&self, measure: u8) -> bool
         ensures { result ≡ some (λ e. nat_eq e.measure measure) self.now.items.items }
     {
-        self.stands_in_place(measure) || self.items.iter().any(|e| e.measure == measure)
+        self.items.iter().any(|e| e.measure == measure)
+    }
+
+    // The same for each measure that there can be, in one pass.
+    pub fn mentioned(&self) -> Flags
+        ensures long { length result ≡ 17 }
+        ensures told { (j : ℕ) → j < 17 → slice_index_or result j false ≡ some (λ e. nat_eq e.measure j) self.now.items.items }
+    {
+        let entries = self.as_slice();
+        let mut flags = [false; FLAGS];
+        for e in entries {
+            if e.measure < 17 {
+                flags[usize::from(e.measure)] = true;
+            }
+        }
+        flags
     }
 
     // All signs turned. They are pushed one by one: `from_iter` wants an allocator.
