@@ -4,3 +4,4 @@ pub mod Reading
 pub mod Tabled
 pub mod Affirmed
 pub mod Hinted
+pub mod Columns

@@ -1,20 +1,23 @@
 // Atoms: a relation, entries of a measure and a coefficient each, and a constant.
-ghost use Rattle.std.specs.Prelude.{◌≡◌, ◌≤◌, true};
+ghost use Rattle.std.specs.Prelude.{◌≡◌, ℕ, ◌<◌, ◌≤◌, true, false, nat_eq, slice_index_or};
 ghost use Rattle.calculus.specs.Limits.{sized, most_numerator, most_denominator};
-ghost use Rattle.calculus.specs.Lists.{every};
+ghost use Rattle.calculus.specs.Lists.{every, some};
 ghost use Rattle.rows.specs.Bounds.{most_size};
 ghost use Rattle.rows.specs.Rows.{no_row, same_row, turned as turned_row, related_by, mentions as mentions_row, true_of};
 ghost use Rattle.rows.specs.Linear.{equates as equates_row};
 
 use crate::entries;
-use crate::entries::Entries;
+use crate::entries::{Entries, Flags};
 use rows::Relation;
 
+// Which measures it mentions is kept beside its entries, so that no question goes through these.
 #[derive(Drop)]
 pub struct Atom {
     pub relation: Relation,
-    pub entries: Entries,
+    pub mentioned: Flags,
     pub constant: i32,
+    pub entries: Entries,
+    ghost told: { (j : ℕ) → j < 17 → slice_index_or mentioned j false ≡ some (λ e. nat_eq e.measure j) entries.items.items },
     ghost near: { sized most_size constant ≡ true },
 }
 
@@ -27,8 +30,9 @@ impl Default for Atom {
     fn default() -> Self {
         Atom {
             relation: Relation::Less,
-            entries: Entries::default(),
+            mentioned: [false; 17],
             constant: 0,
+            entries: Entries::default(),
         }
     }
 }
@@ -40,10 +44,12 @@ impl Atom {
     pub fn turned(&self) -> Atom
         ensures { row result ≡ turned_row self.now.relation (row self.now) }
     {
+        let entries = self.entries.turned();
         Atom {
             relation: self.relation,
-            entries: self.entries.turned(),
+            mentioned: entries.mentioned(),
             constant: -self.constant,
+            entries,
         }
     }
 
@@ -60,7 +66,10 @@ impl Atom {
     pub fn mentions(&self, measure: u8) -> bool
         ensures { result ≡ mentions_row measure (row self.now) }
     {
-        self.entries.mentions(measure)
+        match self.mentioned.get(usize::from(measure)) {
+            Some(mentioned) => *mentioned,
+            None => self.entries.mentions(measure),
+        }
     }
 
     // Whether the row is true of these numerators over the denominator: the two arguments of a theory's questions. A struct

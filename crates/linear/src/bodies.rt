@@ -87,9 +87,11 @@ pub fn read(body: &[u8], relation: Relation, measures: u8) -> Option<Atom>
     if !within_size(constant) {
         return None;
     }
+    let entries = entries(body, count, measures)?;
     Some(Atom {
         relation,
-        entries: entries(body, count, measures)?,
+        mentioned: entries.mentioned(),
         constant,
+        entries,
     })
 }

@@ -1,13 +1,14 @@
 // The denial of a literal, where it is a row, with a multiplier for it.
-ghost use Rattle.std.specs.Prelude.{◌≡◌, ◌≤◌, true, pos, ◌*ℤ◌, unsigned_abs};
+ghost use Rattle.std.specs.Prelude.{◌≡◌, ℕ, ◌+◌, ◌<◌, ◌≤◌, true, pos, ◌+ℤ◌, ◌*ℤ◌, slice_index_or, unsigned_abs};
 ghost use Rattle.calculus.specs.Limits.{sized};
 ghost use Rattle.rows.specs.Bounds.{most_size};
 ghost use Rattle.rows.specs.Rows.{coefficient_of};
 ghost use Rattle.rows.specs.Hints.{denied_row, allowed as may_take, strict as is_strict, coefficient_in, constant_in};
-ghost use Rattle.linear.specs.Sizes.{most_sum, most_product};
+ghost use Rattle.linear.specs.Sizes.{most_sum, most_product, most_row, most_before};
 
 use crate::atoms::Atom;
 use crate::entries;
+use crate::entries::Sums;
 use rows::Relation;
 
 // A row, or one with all signs turned, in another relation.
@@ -51,13 +52,16 @@ impl<'a> Denial<'a> {
         }
     }
 
-    fn coefficient(&self, measure: u8) -> i32
-        ensures value { result ≡ coefficient_of measure (denied self.now).entries }
-        ensures small { unsigned_abs result ≤ most_sum }
+    // Adds the coefficients times the factor, each to the sum of its measure.
+    fn add_to(&self, factor: i32, sums: &mut Sums)
+        requires factor { sized most_size factor ≡ true }
+        requires room { (j : ℕ) → j < 256 → unsigned_abs (slice_index_or sums.old j (pos 0)) ≤ most_before }
+        ensures sums { (j : ℕ) → j < 256 → slice_index_or sums.new j (pos 0) ≡ slice_index_or sums.old j (pos 0) +ℤ factor *ℤ coefficient_of j (denied self.now).entries }
+        ensures small { (b : ℕ) → ((j : ℕ) → j < 256 → unsigned_abs (slice_index_or sums.old j (pos 0)) ≤ b) → (j : ℕ) → j < 256 → unsigned_abs (slice_index_or sums.new j (pos 0)) ≤ b + most_row }
     {
         match self {
-            Denial::Same(atom) => atom.entries.coefficient(measure),
-            Denial::Turned(_, atom) => -atom.entries.coefficient(measure),
+            Denial::Same(atom) => atom.entries.add_to(factor, sums),
+            Denial::Turned(_, atom) => atom.entries.add_to(-factor, sums),
         }
     }
 }
@@ -96,14 +100,14 @@ impl Summand<'_> {
         }
     }
 
-    // The multiplier times the coefficient of a measure.
-    pub fn coefficient(&self, measure: u8) -> i64
-        ensures value { result ≡ self.now.multiplier *ℤ coefficient_in measure (denied_if self.now.denial) }
-        ensures small { unsigned_abs result ≤ most_product }
+    // Adds the multiplier times the coefficients, each to the sum of its measure.
+    pub fn add_to(&self, sums: &mut Sums)
+        requires { (j : ℕ) → j < 256 → unsigned_abs (slice_index_or sums.old j (pos 0)) ≤ most_before }
+        ensures sums { (j : ℕ) → j < 256 → slice_index_or sums.new j (pos 0) ≡ slice_index_or sums.old j (pos 0) +ℤ self.now.multiplier *ℤ coefficient_in j (denied_if self.now.denial) }
+        ensures small { (b : ℕ) → ((j : ℕ) → j < 256 → unsigned_abs (slice_index_or sums.old j (pos 0)) ≤ b) → (j : ℕ) → j < 256 → unsigned_abs (slice_index_or sums.new j (pos 0)) ≤ b + most_row }
     {
-        match self.denial {
-            None => 0,
-            Some(denial) => entries::product(self.multiplier, denial.coefficient(measure)),
+        if let Some(denial) = self.denial {
+            denial.add_to(self.multiplier, sums);
         }
     }
 

@@ -1,17 +1,25 @@
 // The entries of a row, with sums and tests over them.
-ghost use Rattle.std.specs.Prelude.{◌≡◌, ◌<◌, ◌≤◌, true, [], ◌∷◌, ◌++◌, map, length, pos, ◌*ℤ◌, nat_eq, unsigned_abs};
+ghost use Rattle.std.specs.Prelude.{◌≡◌, ℕ, ◌+◌, ◌<◌, ◌≤◌, true, false, [], ◌∷◌, ◌++◌, map, length, pos, ◌+ℤ◌, ◌*ℤ◌, nat_eq, slice_index_or, unsigned_abs};
 ghost use Rattle.calculus.specs.Limits.{sized, most_measures, most_numerator};
 ghost use Rattle.rows.specs.Bounds.{most_size};
 ghost use Rattle.calculus.specs.Lists.{every, some};
 ghost use Rattle.rows.specs.Rows.{weight, coefficient_of, turned_entry};
 ghost use Rattle.rows.specs.Linear.{on_both, opposite as opposite_entries, opposed as opposed_entries};
 ghost use Rattle.arrayvec.specs.ArrayVec.{array_vec_len};
-ghost use Rattle.linear.specs.Sizes.{small_entries, most_sum, most_product};
+ghost use Rattle.linear.specs.Sizes.{small_entries, most_sum, most_product, most_row, most_before};
 
 use crate::bounds::MOST_ENTRIES;
 use arrayvec::ArrayVec;
 use calculus::limits::value_at;
 use rows::Entry;
+
+// A sum for each measure.
+pub type Sums = [i128; 256];
+
+// A flag for each measure, which are counted from 1.
+const FLAGS: usize = 17;
+
+pub type Flags = [bool; FLAGS];
 
 // A product of a number in its range and one of the size of a sum of coefficients.
 pub fn product(a: i32, b: i32) -> i64
@@ -89,7 +97,7 @@ impl Entries {
         requires { every (sized most_numerator) numerators.now ≡ true }
         ensures { result ≡ weight self.now.items.items numerators.now }
     {
-        // a `for` loop here and in `coefficient`: the library's `sum` of signed numbers needs a bound on every partial sum
+        // a `for` loop: the library's `sum` of signed numbers needs a bound on every partial sum
         let entries = self.as_slice();
         let mut sum: i64 = 0;
         for e in entries {
@@ -98,34 +106,39 @@ impl Entries {
         sum
     }
 
-    // The coefficient of a measure, 0 where it is not mentioned.
-    pub fn coefficient(&self, measure: u8) -> i32
-        ensures value { result ≡ coefficient_of measure self.now.items.items }
-        ensures small { unsigned_abs result ≤ most_sum }
+    // Adds each coefficient, times the factor, to the sum of its measure.
+    pub fn add_to(&self, factor: i32, sums: &mut Sums)
+        requires factor { unsigned_abs factor ≤ most_size }
+        requires room { (j : ℕ) → j < 256 → unsigned_abs (slice_index_or sums.old j (pos 0)) ≤ most_before }
+        ensures sums { (j : ℕ) → j < 256 → slice_index_or sums.new j (pos 0) ≡ slice_index_or sums.old j (pos 0) +ℤ factor *ℤ coefficient_of j self.now.items.items }
+        ensures small { (b : ℕ) → ((j : ℕ) → j < 256 → unsigned_abs (slice_index_or sums.old j (pos 0)) ≤ b) → (j : ℕ) → j < 256 → unsigned_abs (slice_index_or sums.new j (pos 0)) ≤ b + most_row }
     {
         let entries = self.as_slice();
-        let mut sum: i32 = 0;
         for e in entries {
-            if e.measure == measure {
-                sum += e.coefficient;
-            }
+            sums[usize::from(e.measure)] += i128::from(product(factor, e.coefficient));
         }
-        sum
     }
 
-    // Whether the entry at the place that the measure has in a row of all measures is on it.
-    fn stands_in_place(&self, measure: u8) -> bool
-        ensures { result ≡ true → some (λ e. nat_eq e.measure measure) self.now.items.items ≡ true }
-    {
-        let place = usize::from(measure).saturating_sub(1);
-        self.items.get(place).is_some_and(|e| e.measure == measure)
-    }
-
-    // Whether an entry is on the measure. In a row of many measures it mostly stands in its place.
+    // Whether an entry is on the measure.
     pub fn mentions(&self, measure: u8) -> bool
         ensures { result ≡ some (λ e. nat_eq e.measure measure) self.now.items.items }
     {
-        self.stands_in_place(measure) || self.items.iter().any(|e| e.measure == measure)
+        self.items.iter().any(|e| e.measure == measure)
+    }
+
+    // The same for each measure that there can be, in one pass.
+    pub fn mentioned(&self) -> Flags
+        ensures long { length result ≡ 17 }
+        ensures told { (j : ℕ) → j < 17 → slice_index_or result j false ≡ some (λ e. nat_eq e.measure j) self.now.items.items }
+    {
+        let entries = self.as_slice();
+        let mut flags = [false; FLAGS];
+        for e in entries {
+            if e.measure < 17 {
+                flags[usize::from(e.measure)] = true;
+            }
+        }
+        flags
     }
 
     // All signs turned. They are pushed one by one: `from_iter` wants an allocator.

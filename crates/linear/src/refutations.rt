@@ -1,5 +1,5 @@
 // Whether the denials of a clause's literals, times the multipliers of a hint, refute one another.
-ghost use Rattle.std.specs.Prelude.{◌≡◌, ◌+◌, ◌<◌, ◌≤◌, true, ℤ, length, pos, None as none, slice_index_or, unsigned_abs};
+ghost use Rattle.std.specs.Prelude.{◌≡◌, ℕ, ◌+◌, ◌<◌, ◌≤◌, true, ℤ, length, pos, None as none, slice_index_or, unsigned_abs};
 ghost use Rattle.std.specs.List.{range_with_len};
 ghost use Rattle.calculus.specs.Limits.{within};
 ghost use Rattle.calculus.specs.Lists.{every, some};
@@ -12,6 +12,7 @@ ghost use Rattle.linear.specs.Sizes.{most_product};
 use crate::bodies;
 use crate::clauses::Clause;
 use crate::denials::{Denial, Summand};
+use crate::entries::Sums;
 
 // A clause with a hint that has one multiplier for each literal.
 #[derive(Clone, Copy)]
@@ -88,11 +89,16 @@ impl<'a> Refutation<'a> {
         sum
     }
 
-    // What the coefficients of a measure add up to.
-    fn column(&self, measure: u8) -> i128
-        ensures { result ≡ column_of measure (parts_of self.now) }
+    // What the coefficients of each measure add up to: one pass through the rows.
+    fn columns(&self) -> Sums
+        ensures long { length result ≡ 256 }
+        ensures sums { (j : ℕ) → j < 256 → slice_index_or result j (pos 0) ≡ column_of j (parts_of self.now) }
     {
-        self.total(&|summand: &Summand<'_>| summand.coefficient(measure))
+        let mut sums = [0; 256];
+        for (i, literal) in self.clause.literals.iter().enumerate() {
+            self.summand(i, *literal).add_to(&mut sums);
+        }
+        sums
     }
 
     // What the constants add up to.
@@ -102,18 +108,13 @@ impl<'a> Refutation<'a> {
         self.total(&|summand: &Summand<'_>| summand.constant())
     }
 
-    // Whether the coefficients of a measure add up to 0.
-    fn cancels(&self, measure: u8) -> bool
-        ensures { result ≡ same (column_of measure (parts_of self.now)) (pos 0) }
-    {
-        self.column(measure) == 0
-    }
-
     // Whether the coefficients of each measure add up to 0.
     fn columns_zero(&self) -> bool
         ensures { result ≡ every (λ j. same (column_of j (parts_of self.now)) (pos 0)) (range_with_len 1 (table self.now.clause.linear.now).measures) }
     {
-        (1..self.clause.linear.measure_count() + 1).all(|measure| self.cancels(measure))
+        let columns = self.columns();
+        let measures = self.clause.linear.measure_count();
+        (1..measures + 1).all(|measure| columns[usize::from(measure)] == 0)
     }
 
     // Whether the multipliers refute the denials.
