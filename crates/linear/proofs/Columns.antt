@@ -11,11 +11,21 @@ use Rattle.rows.proofs.Integers.{*ℤ-+ℤ, neg-*ℤ}
 use Rattle.linear.proofs.Sums.{total_more}
 use Rattle.linear.proofs.Listed.{no_entry, coefficient_turned}
 
-module _ (es : List Entry) (i : ℕ) (l : i < length es) (f : ℤ) (sums : List ℤ) (long : length sums ≡ 256) (m : ℕ) (low : m < 256) (at : m ≡ (get_or es i no_entry).measure) (x y : ℤ) (is : x ≡ f *ℤ (get_or es i no_entry).coefficient) (now : y ≡ get_or sums m (pos 0) +ℤ x) where
+-- an entry on another measure changes nothing
+pub column_same : (es : List Entry) (i : ℕ) → i < length es → (f x y : ℤ) (j : ℕ) → ((get_or es i no_entry).measure ≡ j → ⊥) → x ≡ y +ℤ f *ℤ coefficient_of j (take i es) → x ≡ y +ℤ f *ℤ coefficient_of j (take (i + 1) es)
+column_same es i l f x y j apart h =
+    let e = get_or es i no_entry in
+    let before = coefficient_of j (take i es) in
+    h
+    ∙ ap (λ z. y +ℤ f *ℤ z) (sym (+ℤ_idr before))
+    ∙ ap (λ b. y +ℤ f *ℤ (before +ℤ cond b e.coefficient (pos 0))) (sym (ne_eqb e.measure j apart))
+    ∙ ap (λ z. y +ℤ f *ℤ z) (sym (total_more (λ e. cond (eqb e.measure j) e.coefficient (pos 0)) es i no_entry l))
+
+module _ (es : List Entry) (i : ℕ) (l : i < length es) (f : ℤ) (sums : List ℤ) (long : length sums ≡ 17) (m : ℕ) (low : m < 17) (at : m ≡ (get_or es i no_entry).measure) (x y : ℤ) (is : x ≡ f *ℤ (get_or es i no_entry).coefficient) (now : y ≡ get_or sums m (pos 0) +ℤ x) where
   next : (j : ℕ) → coefficient_of j (take (i + 1) es) ≡ coefficient_of j (take i es) +ℤ cond (eqb (get_or es i no_entry).measure j) (get_or es i no_entry).coefficient (pos 0)
   next j = total_more (λ e. cond (eqb e.measure j) e.coefficient (pos 0)) es i no_entry l
 
-  pub column_more : (old : List ℤ) → ((j : ℕ) → j < 256 → get_or sums j (pos 0) ≡ get_or old j (pos 0) +ℤ f *ℤ coefficient_of j (take i es)) → (j : ℕ) → j < 256 → get_or (set sums m y) j (pos 0) ≡ get_or old j (pos 0) +ℤ f *ℤ coefficient_of j (take (i + 1) es)
+  pub column_more : (old : List ℤ) → ((j : ℕ) → j < 17 → get_or sums j (pos 0) ≡ get_or old j (pos 0) +ℤ f *ℤ coefficient_of j (take i es)) → (j : ℕ) → j < 17 → get_or (set sums m y) j (pos 0) ≡ get_or old j (pos 0) +ℤ f *ℤ coefficient_of j (take (i + 1) es)
   column_more old so_far j h =
       let e = get_or es i no_entry in
       let before = coefficient_of j (take i es) in
@@ -29,13 +39,10 @@ module _ (es : List Entry) (i : ℕ) (l : i < length es) (f : ℤ) (sums : List 
       ∙ ap (λ b. get_or old j (pos 0) +ℤ f *ℤ (before +ℤ cond b e.coefficient (pos 0))) (sym (eq-eqb e.measure j (sym (same ∙ at))))
       ∙ ap (λ z. get_or old j (pos 0) +ℤ f *ℤ z) (sym (next j)))
       (λ (apart : j ≡ m → ⊥).
-      get_or-set_other sums m j y (pos 0) apart ∙ so_far j h
-      ∙ ap (λ z. get_or old j (pos 0) +ℤ f *ℤ z) (sym (+ℤ_idr before))
-      ∙ ap (λ b. get_or old j (pos 0) +ℤ f *ℤ (before +ℤ cond b e.coefficient (pos 0))) (sym (ne_eqb e.measure j (λ q. apart (sym (at ∙ q)))))
-      ∙ ap (λ z. get_or old j (pos 0) +ℤ f *ℤ z) (sym (next j)))
+      get_or-set_other sums m j y (pos 0) apart ∙ column_same es i l f (get_or sums j (pos 0)) (get_or old j (pos 0)) j (λ q. apart (sym (at ∙ q))) (so_far j h))
       (cases_eq j m)
 
-  pub column_small : (b : ℕ) → nat_abs x ≤ 160000000000000000 → ((j : ℕ) → j < 256 → nat_abs (get_or sums j (pos 0)) ≤ b) → (j : ℕ) → j < 256 → nat_abs (get_or (set sums m y) j (pos 0)) ≤ b + 160000000000000000
+  pub column_small : (b : ℕ) → nat_abs x ≤ 160000000000000000 → ((j : ℕ) → j < 17 → nat_abs (get_or sums j (pos 0)) ≤ b) → (j : ℕ) → j < 17 → nat_abs (get_or (set sums m y) j (pos 0)) ≤ b + 160000000000000000
   column_small b k so_far j h =
       ⊎_elim
       (λ (same : j ≡ m).

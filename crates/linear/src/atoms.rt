@@ -7,7 +7,7 @@ ghost use Rattle.rows.specs.Rows.{no_row, same_row, turned as turned_row, relate
 ghost use Rattle.rows.specs.Linear.{equates as equates_row};
 
 use crate::entries;
-use crate::entries::{Entries, Flags};
+use crate::entries::{Entries, Flags, PLACES};
 use rows::Relation;
 
 // Which measures it mentions is kept beside its entries, so that no question goes through these.
@@ -30,7 +30,7 @@ impl Default for Atom {
     fn default() -> Self {
         Atom {
             relation: Relation::Less,
-            mentioned: [false; 17],
+            mentioned: [false; PLACES],
             constant: 0,
             entries: Entries::default(),
         }

@@ -55,9 +55,9 @@ impl<'a> Denial<'a> {
     // Adds the coefficients times the factor, each to the sum of its measure.
     fn add_to(&self, factor: i32, sums: &mut Sums)
         requires factor { sized most_size factor ≡ true }
-        requires room { (j : ℕ) → j < 256 → unsigned_abs (slice_index_or sums.old j (pos 0)) ≤ most_before }
-        ensures sums { (j : ℕ) → j < 256 → slice_index_or sums.new j (pos 0) ≡ slice_index_or sums.old j (pos 0) +ℤ factor *ℤ coefficient_of j (denied self.now).entries }
-        ensures small { (b : ℕ) → ((j : ℕ) → j < 256 → unsigned_abs (slice_index_or sums.old j (pos 0)) ≤ b) → (j : ℕ) → j < 256 → unsigned_abs (slice_index_or sums.new j (pos 0)) ≤ b + most_row }
+        requires room { (j : ℕ) → j < 17 → unsigned_abs (slice_index_or sums.old j (pos 0)) ≤ most_before }
+        ensures sums { (j : ℕ) → j < 17 → slice_index_or sums.new j (pos 0) ≡ slice_index_or sums.old j (pos 0) +ℤ factor *ℤ coefficient_of j (denied self.now).entries }
+        ensures small { (b : ℕ) → ((j : ℕ) → j < 17 → unsigned_abs (slice_index_or sums.old j (pos 0)) ≤ b) → (j : ℕ) → j < 17 → unsigned_abs (slice_index_or sums.new j (pos 0)) ≤ b + most_row }
     {
         match self {
             Denial::Same(atom) => atom.entries.add_to(factor, sums),
@@ -102,9 +102,9 @@ impl Summand<'_> {
 
     // Adds the multiplier times the coefficients, each to the sum of its measure.
     pub fn add_to(&self, sums: &mut Sums)
-        requires { (j : ℕ) → j < 256 → unsigned_abs (slice_index_or sums.old j (pos 0)) ≤ most_before }
-        ensures sums { (j : ℕ) → j < 256 → slice_index_or sums.new j (pos 0) ≡ slice_index_or sums.old j (pos 0) +ℤ self.now.multiplier *ℤ coefficient_in j (denied_if self.now.denial) }
-        ensures small { (b : ℕ) → ((j : ℕ) → j < 256 → unsigned_abs (slice_index_or sums.old j (pos 0)) ≤ b) → (j : ℕ) → j < 256 → unsigned_abs (slice_index_or sums.new j (pos 0)) ≤ b + most_row }
+        requires { (j : ℕ) → j < 17 → unsigned_abs (slice_index_or sums.old j (pos 0)) ≤ most_before }
+        ensures sums { (j : ℕ) → j < 17 → slice_index_or sums.new j (pos 0) ≡ slice_index_or sums.old j (pos 0) +ℤ self.now.multiplier *ℤ coefficient_in j (denied_if self.now.denial) }
+        ensures small { (b : ℕ) → ((j : ℕ) → j < 17 → unsigned_abs (slice_index_or sums.old j (pos 0)) ≤ b) → (j : ℕ) → j < 17 → unsigned_abs (slice_index_or sums.new j (pos 0)) ≤ b + most_row }
     {
         if let Some(denial) = self.denial {
             denial.add_to(self.multiplier, sums);

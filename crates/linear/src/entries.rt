@@ -13,13 +13,14 @@ use arrayvec::ArrayVec;
 use calculus::limits::value_at;
 use rows::Entry;
 
+// Measures are counted from 1 to 16.
+pub const PLACES: usize = 17;
+
 // A sum for each measure.
-pub type Sums = [i128; 256];
+pub type Sums = [i128; PLACES];
 
-// A flag for each measure, which are counted from 1.
-const FLAGS: usize = 17;
-
-pub type Flags = [bool; FLAGS];
+// A flag for each measure.
+pub type Flags = [bool; PLACES];
 
 // A product of a number in its range and one of the size of a sum of coefficients.
 pub fn product(a: i32, b: i32) -> i64
@@ -109,13 +110,16 @@ impl Entries {
     // Adds each coefficient, times the factor, to the sum of its measure.
     pub fn add_to(&self, factor: i32, sums: &mut Sums)
         requires factor { unsigned_abs factor ≤ most_size }
-        requires room { (j : ℕ) → j < 256 → unsigned_abs (slice_index_or sums.old j (pos 0)) ≤ most_before }
-        ensures sums { (j : ℕ) → j < 256 → slice_index_or sums.new j (pos 0) ≡ slice_index_or sums.old j (pos 0) +ℤ factor *ℤ coefficient_of j self.now.items.items }
-        ensures small { (b : ℕ) → ((j : ℕ) → j < 256 → unsigned_abs (slice_index_or sums.old j (pos 0)) ≤ b) → (j : ℕ) → j < 256 → unsigned_abs (slice_index_or sums.new j (pos 0)) ≤ b + most_row }
+        requires room { (j : ℕ) → j < 17 → unsigned_abs (slice_index_or sums.old j (pos 0)) ≤ most_before }
+        ensures sums { (j : ℕ) → j < 17 → slice_index_or sums.new j (pos 0) ≡ slice_index_or sums.old j (pos 0) +ℤ factor *ℤ coefficient_of j self.now.items.items }
+        ensures small { (b : ℕ) → ((j : ℕ) → j < 17 → unsigned_abs (slice_index_or sums.old j (pos 0)) ≤ b) → (j : ℕ) → j < 17 → unsigned_abs (slice_index_or sums.new j (pos 0)) ≤ b + most_row }
     {
         let entries = self.as_slice();
         for e in entries {
-            sums[usize::from(e.measure)] += i128::from(product(factor, e.coefficient));
+            let place = usize::from(e.measure);
+            if place < PLACES {
+                sums[place] += i128::from(product(factor, e.coefficient));
+            }
         }
     }
 
@@ -132,9 +136,9 @@ impl Entries {
         ensures told { (j : ℕ) → j < 17 → slice_index_or result j false ≡ some (λ e. nat_eq e.measure j) self.now.items.items }
     {
         let entries = self.as_slice();
-        let mut flags = [false; FLAGS];
+        let mut flags = [false; PLACES];
         for e in entries {
-            if e.measure < 17 {
+            if usize::from(e.measure) < PLACES {
                 flags[usize::from(e.measure)] = true;
             }
         }

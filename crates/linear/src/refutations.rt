@@ -12,7 +12,7 @@ ghost use Rattle.linear.specs.Sizes.{most_product};
 use crate::bodies;
 use crate::clauses::Clause;
 use crate::denials::{Denial, Summand};
-use crate::entries::Sums;
+use crate::entries::{PLACES, Sums};
 
 // A clause with a hint that has one multiplier for each literal.
 #[derive(Clone, Copy)]
@@ -91,10 +91,10 @@ impl<'a> Refutation<'a> {
 
     // What the coefficients of each measure add up to: one pass through the rows.
     fn columns(&self) -> Sums
-        ensures long { length result ≡ 256 }
-        ensures sums { (j : ℕ) → j < 256 → slice_index_or result j (pos 0) ≡ column_of j (parts_of self.now) }
+        ensures long { length result ≡ 17 }
+        ensures sums { (j : ℕ) → j < 17 → slice_index_or result j (pos 0) ≡ column_of j (parts_of self.now) }
     {
-        let mut sums = [0; 256];
+        let mut sums = [0; PLACES];
         for (i, literal) in self.clause.literals.iter().enumerate() {
             self.summand(i, *literal).add_to(&mut sums);
         }
@@ -113,8 +113,8 @@ impl<'a> Refutation<'a> {
         ensures { result ≡ every (λ j. same (column_of j (parts_of self.now)) (pos 0)) (range_with_len 1 (table self.now.clause.linear.now).measures) }
     {
         let columns = self.columns();
-        let measures = self.clause.linear.measure_count();
-        (1..measures + 1).all(|measure| columns[usize::from(measure)] == 0)
+        let measures = usize::from(self.clause.linear.measure_count());
+        columns[1..=measures].iter().all(|sum| *sum == 0)
     }
 
     // Whether the multipliers refute the denials.

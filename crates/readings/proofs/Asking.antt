@@ -1,17 +1,19 @@
 -- A question within the limits is answered by what it means.
-use Rattle.std.proofs.Common.{◌≡◌, ℕ, zero, suc, ◌+◌, ◌<◌, ◌≤◌, max, Bool, true, false, cond, not, ◌&&◌, ◌||◌, ltb, leb, List, [], ◌∷◌, map, filter, ℤ, sym, refl, ap, ◌∙◌, arith}
+use Rattle.std.proofs.Common.{◌≡◌, ℕ, zero, suc, ◌+◌, ◌-◌, ◌<◌, ◌≤◌, max, Bool, true, false, cond, not, ◌&&◌, ◌||◌, ltb, leb, List, [], ◌∷◌, map, filter, ℤ, sym, refl, ap, ◌∙◌, ⊎_elim, arith}
 use Rattle.std.specs.List.{range_with_len, AllByRecursion}
 use Rattle.std.proofs.lemmas.List.FromFn.{length-map-range_with_len}
-use Rattle.std.proofs.lemmas.List.Folds.{list_all-map}
-use Rattle.std.proofs.lemmas.Bool.{and_parts, and_from, ltb-true, lt-ltb, le-leb, eq-eqb, cond_both, or_left, or_right}
+use Rattle.std.proofs.lemmas.List.Folds.{list_all-map, list_any-append}
+use Rattle.std.proofs.lemmas.Bool.{true≢false, and_parts, and_from, ltb-true, leb-true, lt-ltb, le-leb, eq-eqb, ne_eqb, eqb-true, cond_both, cases_Bool, cases_eq}
+use Rattle.std.proofs.Math.Bool.{or-false}
 use Rattle.calculus.specs.Lists.{every, highest}
 use Rattle.calculus.specs.Limits.{most_denominator, most_measures, most_numerator, within, sized}
 use Rattle.calculus.specs.Kinds.{Kind, Lawful}
 use Rattle.calculus.specs.Literals.{number}
-use Rattle.readings.specs.Unread.{unread}
+use Rattle.readings.specs.Valuing.{JustValued}
 use Rattle.calculus.specs.Questions.{in_limits, says_mentioned, says_true}
 use Rattle.calculus.specs.Trails.{Entry, Content, entry_for, values, valued, value, numerator, numerators, readable, stays_true}
 use Rattle.calculus.specs.Trails.Content.{Value, Literal}
+use Rattle.calculus.proofs.Meaning.{readable_parts}
 use Rattle.tables.specs.Keys.{ranged, tidy}
 use Rattle.tables.proofs.Tidying.{tidy_ranged}
 use Rattle.tables.proofs.Weighing.{every_kept}
@@ -79,22 +81,12 @@ or_not true false = refl
 or_not false true = refl
 or_not false false = refl
 
-or_comm : (a b : Bool) → (a || b) ≡ (b || a)
-or_comm true true = refl
-or_comm true false = refl
-or_comm false true = refl
-or_comm false false = refl
-
 -- the questions about each measure, answered by what they mean
 module _ (K : Kind) (lawful : Lawful K) (m : K.Model) (a n : ℕ) (h : n ≡ K.measures m) where
   pub settled_so : (p : ℕ → Bool) → every (λ j. not (says_mentioned K m a j) || p j) (range_with_len 1 n) ≡ every (λ j. not (K.mentioned m a j) || p j) (range_with_len 1 (K.measures m))
   settled_so p =
       ap (λ k. every (λ j. not (says_mentioned K m a j) || p j) (range_with_len 1 k)) h
       ∙ every_over (λ j. not (says_mentioned K m a j) || p j) (λ j. not (K.mentioned m a j) || p j) (K.measures m) (λ j w. ap (λ b. not b || p j) (mentioned_so K lawful m a j w))
-
-  -- asked the other way round
-  pub settled_other : (p : ℕ → Bool) → every (λ j. p j || not (says_mentioned K m a j)) (range_with_len 1 n) ≡ every (λ j. not (K.mentioned m a j) || p j) (range_with_len 1 (K.measures m))
-  settled_other p = every_over (λ j. p j || not (says_mentioned K m a j)) (λ j. not (says_mentioned K m a j) || p j) n (λ j w. or_comm (p j) (not (says_mentioned K m a j))) ∙ settled_so p
 
   pub levels_so : (f : ℕ → ℕ) → highest (λ j. cond (says_mentioned K m a j) (f j) 0) (range_with_len 1 n) ≡ highest (λ j. cond (K.mentioned m a j) (f j) 0) (range_with_len 1 (K.measures m))
   levels_so f =
@@ -109,13 +101,49 @@ module _ (K : Kind) (lawful : Lawful K) (m : K.Model) (a n : ℕ) (h : n ≡ K.m
       ∙ every_over (λ j. not (not (valued j t)) || not (says_mentioned K m a j)) (λ j. not (K.mentioned m a j) || valued j t) (K.measures m)
       (λ j w. or_not (valued j t) (says_mentioned K m a j) ∙ ap (λ b. not b || valued j t) (mentioned_so K lawful m a j w))
 
--- what is not readable stays true
-unread_stays : (K : Kind) (m : K.Model) (w d : ℕ) (t u : List Entry) (c : Content) → unread K m w u c ≡ true → stays_true K m w d t u c ≡ true
-unread_stays K m w d t u (Value j x) h = refl
-unread_stays K m w d t u (Literal l o) h = or_right (readable K m w t (number l)) _ (or_left (not (readable K m w u (number l))) _ h)
+values_only : (i j : ℕ) (c : Content) → (i ≡ j → ⊥) → values j c ≡ true → values i c ≡ false
+values_only i j (Value k x) apart h = ne_eqb k i (λ e. apart (sym e ∙ eqb-true k j h))
+values_only i j (Literal l o) apart h = refl
 
-pub all_unread : (K : Kind) (m : K.Model) (w d : ℕ) (t u es : List Entry) → every (λ e. unread K m w u e.content) es ≡ true → every (λ e. stays_true K m w d t u e.content) es ≡ true
-all_unread K m w d t u [] h = refl
-all_unread K m w d t u (e ∷ es) h =
-    let b = and_parts (unread K m w u e.content) (every (λ f. unread K m w u f.content) es) h in
-    and_from _ _ (unread_stays K m w d t u e.content b.0) (all_unread K m w d t u es b.1)
+-- what the value for a measure makes of the readability of a number
+module _ (K : Kind) (m : K.Model) (w j : ℕ) (t u : List Entry) (h : JustValued j t u) (there : within (K.measures m) j ≡ true) where
+  -- any other measure has a value as before
+  other_valued : (i : ℕ) → (i ≡ j → ⊥) → valued i u ≡ valued i t
+  other_valued i apart =
+      ap (valued i) h.now ∙ list_any-append (λ (e : Entry). values i e.content) t (h.entry ∷ [])
+      ∙ ap (λ b. valued i t || (b || false)) (values_only i j h.entry.content apart h.values)
+      ∙ or-false (valued i t)
+
+  -- an atom that does not mention the measure is readable as before
+  same_readable : (n : ℕ) → K.mentioned m (n - w) j ≡ false → readable K m w u n ≡ readable K m w t n
+  same_readable n f = ap (λ b. ltb w n && b) (every_over (λ i. not (K.mentioned m (n - w) i) || valued i u) (λ i. not (K.mentioned m (n - w) i) || valued i t) (K.measures m) agree)
+    where
+      agree : (i : ℕ) → within (K.measures m) i ≡ true → (not (K.mentioned m (n - w) i) || valued i u) ≡ (not (K.mentioned m (n - w) i) || valued i t)
+      agree i _ =
+          ⊎_elim
+          (λ (e : i ≡ j). let q = ap (λ k. K.mentioned m (n - w) k) e ∙ f in ap (λ b. not b || valued i u) q ∙ sym (ap (λ b. not b || valued i t) q))
+          (λ (apart : i ≡ j → ⊥). ap (λ b. not (K.mentioned m (n - w) i) || b) (other_valued i apart))
+          (cases_eq i j)
+
+  -- one that does was not readable
+  unread_before : (n : ℕ) → K.mentioned m (n - w) j ≡ true → readable K m w t n ≡ false
+  unread_before n y =
+      ⊎_elim
+      (λ (r : readable K m w t n ≡ true).
+      let b = and_parts (ltb 0 j) (leb j (K.measures m)) there in
+      absurd (true≢false (sym ((readable_parts K m w t n r).1 j (ltb-true 0 j b.0) (leb-true j (K.measures m) b.1) y) ∙ h.before)))
+      (λ z. z)
+      (cases_Bool (readable K m w t n))
+
+  -- so a literal stays true if it is one that the value makes readable, and true
+  pub stays_by : (n : ℕ) (b : Bool) → (not (K.mentioned m (n - w) j && readable K m w u n) || b) ≡ (readable K m w t n || (not (readable K m w u n) || b))
+  stays_by n b =
+      ⊎_elim
+      (λ (y : K.mentioned m (n - w) j ≡ true). ap (λ x. not (x && readable K m w u n) || b) y ∙ sym (ap (λ x. x || (not (readable K m w u n) || b)) (unread_before n y)))
+      (λ (f : K.mentioned m (n - w) j ≡ false).
+      ap (λ x. not (x && readable K m w u n) || b) f ∙ either (readable K m w u n) ∙ ap (λ x. x || (not (readable K m w u n) || b)) (same_readable n f))
+      (cases_Bool (K.mentioned m (n - w) j))
+    where
+      either : (r : Bool) → true ≡ (r || (not r || b))
+      either true = refl
+      either false = refl

@@ -1,1 +1,1 @@
-pub mod Unread
+pub mod Valuing

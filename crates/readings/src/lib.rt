@@ -2,7 +2,7 @@
 // those behind them the atoms of the theory.
 #![tactic(auto)]
 
-ghost use Rattle.std.specs.Prelude.{◌≡◌, ℕ, ◌-◌, Bool, true, not, ◌||◌, List, ℤ, filter, if◌then◌else◌};
+ghost use Rattle.std.specs.Prelude.{◌≡◌, ℕ, ◌-◌, Bool, true, not, ◌&&◌, ◌||◌, List, ℤ, filter, if◌then◌else◌};
 ghost use Rattle.std.specs.List.{range_with_len};
 ghost use Rattle.calculus.specs.Lists.{every, highest};
 ghost use Rattle.calculus.specs.Limits.{most_denominator, within};
@@ -11,12 +11,11 @@ ghost use Rattle.calculus.specs.Questions.{in_limits, says_mentioned};
 ghost use Rattle.calculus.specs.Trails.{Entry as Trailed, entry_for, values, valued, numerators as numerators_of, readable, reading_level, by_values, stays_true};
 ghost use Rattle.tables.specs.Views.{entry_of, entries_of};
 ghost use Rattle.tables.specs.Tables.{trail_of};
-ghost use Rattle.readings.specs.Unread.{unread};
+ghost use Rattle.readings.specs.Valuing.{JustValued};
 
 use calculus::Theory;
 use tables::entry::Entry;
 use tables::trail::Trail;
-use tables::trail::asking::unvalued;
 
 // The atoms of a theory, under their numbers behind the switches.
 #[derive(Drop)]
@@ -39,7 +38,7 @@ impl<T: Theory> Atoms<'_, T> {
         ensures { result ≡ every (λ j. not (T.Theory.kind.mentioned (T.Theory.model self.now.theory.now) atom j) || valued j (trail_of trail.now)) (range_with_len 1 (T.Theory.kind.measures (T.Theory.model self.now.theory.now))) }
     {
         let measures = self.theory.measures();
-        (1..measures + 1).all(|j| trail.is_valued(j) || !self.theory.mentions(atom, j))
+        (1..measures + 1).all(|j| !self.theory.mentions(atom, j) || trail.is_valued(j))
     }
 
     // The number is an atom, and all measures that it mentions have values.
@@ -57,11 +56,15 @@ impl<T: Theory> Atoms<'_, T> {
         unvalued.iter().all(|j| !self.theory.mentions(atom, *j))
     }
 
-    // The number is an atom that mentions none of these measures: it is readable, where they are all that have no value.
-    fn is_readable_but(&self, unvalued: &[u8], number: u8) -> bool
-        ensures { (t : List Trailed) → unvalued.now ≡ filter (λ j. not (valued j t)) (range_with_len 1 (T.Theory.kind.measures (T.Theory.model self.now.theory.now))) → result ≡ readable T.Theory.kind (T.Theory.model self.now.theory.now) self.now.switches t number }
+    // The number is an atom that mentions the measure and none of the others: it is readable, where the others are all that
+    // have no value.
+    fn is_readable_by(&self, measure: u8, unvalued: &[u8], number: u8) -> bool
+        ensures { (t : List Trailed) → unvalued.now ≡ filter (λ j. not (valued j t)) (range_with_len 1 (T.Theory.kind.measures (T.Theory.model self.now.theory.now))) → result ≡ (says_mentioned T.Theory.kind (T.Theory.model self.now.theory.now) (number - self.now.switches) measure && readable T.Theory.kind (T.Theory.model self.now.theory.now) self.now.switches t number) }
     {
-        self.switches < number && self.mentions_none(unvalued, number.saturating_sub(self.switches))
+        let atom = number.saturating_sub(self.switches);
+        self.theory.mentions(atom, measure)
+            && self.switches < number
+            && self.mentions_none(unvalued, atom)
     }
 
     // The level of the measure's value, where the atom mentions it; else 0.
@@ -110,55 +113,32 @@ impl<T: Theory> Reading<'_, T> {
         self.is_true_of(numerators.as_slice(), literal)
     }
 
-    // Where the first measures are all that had no value, the second all that have none now, and the numerators those of
-    // now: a literal that becomes readable is true.
-    fn stays_true(&self, before: &[u8], after: &[u8], numerators: &[i32], entry: Entry) -> bool
-        ensures { (t u : List Trailed) → before.now ≡ filter (λ j. not (valued j t)) (range_with_len 1 (T.Theory.kind.measures (T.Theory.model self.now.atoms.theory.now))) → after.now ≡ filter (λ j. not (valued j u)) (range_with_len 1 (T.Theory.kind.measures (T.Theory.model self.now.atoms.theory.now))) → numerators.now ≡ numerators_of T.Theory.kind (T.Theory.model self.now.atoms.theory.now) u → in_limits (T.Theory.kind.measures (T.Theory.model self.now.atoms.theory.now)) numerators.now self.now.denominator ≡ true → result ≡ stays_true T.Theory.kind (T.Theory.model self.now.atoms.theory.now) self.now.atoms.switches self.now.denominator t u (entry_of entry).content }
+    // Where the measure has just got its value, these are all measures that have none, and the numerators are those of now: a
+    // literal that becomes readable is true. Only one whose atom mentions the measure does.
+    fn stays_true(&self, measure: u8, unvalued: &[u8], numerators: &[i32], entry: Entry) -> bool
+        ensures { (t u : List Trailed) → JustValued measure t u → within (T.Theory.kind.measures (T.Theory.model self.now.atoms.theory.now)) measure ≡ true → unvalued.now ≡ filter (λ j. not (valued j u)) (range_with_len 1 (T.Theory.kind.measures (T.Theory.model self.now.atoms.theory.now))) → numerators.now ≡ numerators_of T.Theory.kind (T.Theory.model self.now.atoms.theory.now) u → in_limits (T.Theory.kind.measures (T.Theory.model self.now.atoms.theory.now)) numerators.now self.now.denominator ≡ true → result ≡ stays_true T.Theory.kind (T.Theory.model self.now.atoms.theory.now) self.now.atoms.switches self.now.denominator t u (entry_of entry).content }
     {
         match entry {
             Entry::Value { .. } => true,
             Entry::Literal { literal, .. } => {
                 let number = literal.unsigned_abs();
-                !self.atoms.is_readable_but(after, number)
-                    || self.atoms.is_readable_but(before, number)
+                !self.atoms.is_readable_by(measure, unvalued, number)
                     || self.is_true_of(numerators, literal)
             }
         }
     }
 
-    // The entry is a value or a literal that is not readable, where these measures are all that have no value.
-    fn is_unread(&self, unvalued: &[u8], entry: Entry) -> bool
-        ensures { (t : List Trailed) → unvalued.now ≡ filter (λ j. not (valued j t)) (range_with_len 1 (T.Theory.kind.measures (T.Theory.model self.now.atoms.theory.now))) → result ≡ unread T.Theory.kind (T.Theory.model self.now.atoms.theory.now) self.now.atoms.switches t (entry_of entry).content }
-    {
-        match entry {
-            Entry::Value { .. } => true,
-            Entry::Literal { literal, .. } => {
-                !self.atoms.is_readable_but(unvalued, literal.unsigned_abs())
-            }
-        }
-    }
-
-    // Where some literals are readable: each of the old entries that becomes so is true. What had no value, and the
-    // numerators, are asked once for all of them.
-    fn bears_some(&self, old: &[Entry], new: &Trail, after: &[u8]) -> bool
-        ensures { after.now ≡ filter (λ j. not (valued j (trail_of new.now))) (range_with_len 1 (T.Theory.kind.measures (T.Theory.model self.now.atoms.theory.now))) → result ≡ every (λ e. stays_true T.Theory.kind (T.Theory.model self.now.atoms.theory.now) self.now.atoms.switches self.now.denominator (entries_of old.now) (trail_of new.now) e.content) (entries_of old.now) }
+    // Where the measure has just got its value: every literal of the entries before that becomes readable is true. What has no
+    // value, and the numerators, are asked once for all of them.
+    pub fn bears(&self, measure: u8, old: &[Entry], new: &Trail) -> bool
+        ensures { JustValued measure (entries_of old.now) (trail_of new.now) → within (T.Theory.kind.measures (T.Theory.model self.now.atoms.theory.now)) measure ≡ true → result ≡ every (λ e. stays_true T.Theory.kind (T.Theory.model self.now.atoms.theory.now) self.now.atoms.switches self.now.denominator (entries_of old.now) (trail_of new.now) e.content) (entries_of old.now) }
     {
         let measures = self.atoms.theory.measures();
-        let unvalued_then = unvalued(old, measures);
+        let unvalued_now = new.unvalued(measures);
         let numerators_now = new.numerators(measures);
-        let before = unvalued_then.as_slice();
+        let unvalued = unvalued_now.as_slice();
         let numerators = numerators_now.as_slice();
         old.iter()
-            .all(|e| self.stays_true(before, after, numerators, *e))
-    }
-
-    // Every literal of the old entries that becomes readable on the new trail is true on it. Mostly none is readable, which
-    // is quick to see.
-    pub fn bears(&self, old: &[Entry], new: &Trail) -> bool
-        ensures { result ≡ every (λ e. stays_true T.Theory.kind (T.Theory.model self.now.atoms.theory.now) self.now.atoms.switches self.now.denominator (entries_of old.now) (trail_of new.now) e.content) (entries_of old.now) }
-    {
-        let unvalued_now = new.unvalued(self.atoms.theory.measures());
-        let after = unvalued_now.as_slice();
-        old.iter().all(|e| self.is_unread(after, *e)) || self.bears_some(old, new, after)
+            .all(|e| self.stays_true(measure, unvalued, numerators, *e))
     }
 }

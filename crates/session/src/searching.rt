@@ -1,14 +1,15 @@
 // The search: lemma, choose, set, propagate and read.
-ghost use Rattle.std.specs.Prelude.{◌≡◌, ◌-◌, ◌≤◌, true, false, ◌&&◌, length, take};
+ghost use Rattle.std.specs.Prelude.{◌≡◌, ◌≤◌, true, false, ◌&&◌, List};
 ghost use Rattle.calculus.specs.Calls.Call.{Lemma as to_lemma, Choose as to_choose, Set as to_set, Propagate as to_propagate, Read as to_read};
 ghost use Rattle.calculus.specs.Lists.{every};
 ghost use Rattle.calculus.specs.Limits.{most_measures, most_numerator, within, sized};
-ghost use Rattle.calculus.specs.Trails.{valued, enter_choice, reading, stays_true};
+ghost use Rattle.calculus.specs.Trails.{Entry as Trailed, valued, enter_choice, reading, stays_true};
 ghost use Rattle.calculus.specs.Trails.Content.{Value};
 ghost use Rattle.calculus.specs.Literals.{holds_literal};
 ghost use Rattle.calculus.specs.States.{clause as clause_at};
 ghost use Rattle.calculus.specs.Steps.{readable_in, others_false};
 ghost use Rattle.tables.specs.Tables.{trail_of, store_of};
+ghost use Rattle.readings.specs.Valuing.{JustValued};
 ghost use Rattle.session.specs.Cores.{view, Steps};
 
 use super::Core;
@@ -106,7 +107,7 @@ impl<T: Theory> Core<T> {
             return Err(SessionFault::State(StateCause::Taken));
         }
         enter_value(&mut self.trail, measure, numerator);
-        if !self.bears_last() {
+        if !self.bears_value(measure) {
             self.trail.pop();
             return Err(SessionFault::State(StateCause::ContradictsTrail));
         }
@@ -121,12 +122,12 @@ impl<T: Theory> Core<T> {
             && is_numerator(numerator)
     }
 
-    // Every literal that becomes readable with the last entry of the trail is true on it.
-    fn bears_last(&self) -> bool
-        ensures { result ≡ every (λ e. stays_true T.Theory.kind (T.Theory.model self.now.theory) self.now.counts.switches self.now.counts.denominator (take (length (trail_of self.now.trail) - 1) (trail_of self.now.trail)) (trail_of self.now.trail) e.content) (take (length (trail_of self.now.trail) - 1) (trail_of self.now.trail)) }
+    // Where the last entry of the trail has just given the measure its value: every literal that becomes readable is true.
+    fn bears_value(&self, measure: u8) -> bool
+        ensures { (t : List Trailed) → JustValued measure t (trail_of self.now.trail) → within (T.Theory.kind.measures (T.Theory.model self.now.theory)) measure ≡ true → result ≡ every (λ e. stays_true T.Theory.kind (T.Theory.model self.now.theory) self.now.counts.switches self.now.counts.denominator t (trail_of self.now.trail) e.content) t }
     {
         match self.trail.entries() {
-            [before @ .., _] => self.reading().bears(before, &self.trail),
+            [before @ .., _] => self.reading().bears(measure, before, &self.trail),
             [] => true,
         }
     }

@@ -8,7 +8,7 @@ use Rattle.linear.proofs.Hinted.{no_part, parts_length_is}
 use Rattle.linear.proofs.refutations.Refutation.columns.Goals as goal
 
 pub loop-i-init : goal.loop-i-init
-loop-i-init c = (refl, λ j h. get_or-replicate 256 j (pos 0) (pos 0) h, λ j h. omega (arith, ints, get_or-replicate 256 j (pos 0) (pos 0) h))
+loop-i-init c = (refl, λ j h. get_or-replicate 17 j (pos 0) (pos 0) h, λ j h. omega (arith, ints, get_or-replicate 17 j (pos 0) (pos 0) h))
 
 pub loop-i-preserved : goal.loop-i-preserved
 loop-i-preserved c =

@@ -6,6 +6,6 @@ use Rattle.linear.proofs.refutations.Refutation.columns.Given as goal
 
 abbrev pub invariant-loop-i : goal.invariant-loop-i
 invariant-loop-i l =
-    (length l.sums ≡ 256)
-    × ((j : ℕ) → j < 256 → get_or l.sums j (pos 0) ≡ column j (take l.i (parts_of l.self)))
-    × ((j : ℕ) → j < 256 → nat_abs (get_or l.sums j (pos 0)) ≤ l.i * most_row)
+    (length l.sums ≡ 17)
+    × ((j : ℕ) → j < 17 → get_or l.sums j (pos 0) ≡ column j (take l.i (parts_of l.self)))
+    × ((j : ℕ) → j < 17 → nat_abs (get_or l.sums j (pos 0)) ≤ l.i * most_row)
