@@ -9,3 +9,4 @@ pub mod Sifting
 pub mod Resolving
 pub mod Dropping
 pub mod Placing
+pub mod Numerators

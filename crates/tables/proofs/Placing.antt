@@ -30,7 +30,7 @@ affirms_key l c h = concerns_key (number l) c (affirms_concerns l c h)
 pub denies_key : (l : ℤ) (c : Content) → affirms (neg_ℤ l) c ≡ true → key c ≡ number l
 denies_key l c h = concerns_key (number l) c (denies_concerns l c h)
 
-within_parts : (most n : ℕ) → within most n ≡ true → (0 < n) × (n ≤ most)
+pub within_parts : (most n : ℕ) → within most n ≡ true → (0 < n) × (n ≤ most)
 within_parts most n h = let b = and_parts (ltb 0 n) (leb n most) h in (ltb-true 0 n b.0, leb-true n most b.1)
 
 pub key_small : (c : Content) → ranged c ≡ true → key c < 256

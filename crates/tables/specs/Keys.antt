@@ -1,9 +1,9 @@
--- What holds of every trail: its numbers and measures are in range, none of them stands twice, and each entry is found by its
--- key.
-use Rattle.std.specs.Prelude.{ℕ, ◌+◌, ◌-◌, Bool, true, not, ◌&&◌, List, [], ◌∷◌, ◌==◌, slice_index_or}
+-- What holds of every trail: its numbers and measures are in range, none of them stands twice, each entry is found by its
+-- key, and each numerator by its measure.
+use Rattle.std.specs.Prelude.{◌≡◌, ℕ, ◌+◌, ◌-◌, ◌≤◌, Bool, true, not, ◌&&◌, List, [], ◌∷◌, ℤ, pos, ◌==◌, slice_index_or}
 use Rattle.calculus.specs.Limits.{most_numbers, most_measures, most_numerator, within, sized}
 use Rattle.calculus.specs.Literals.{number}
-use Rattle.calculus.specs.Trails.{Content, Entry, taken, valued}
+use Rattle.calculus.specs.Trails.{Content, Entry, taken, valued, value}
 use Rattle.calculus.specs.Trails.Content.{Value, Literal}
 
 -- a literal on a number that there can be, or a value in its range for a measure that there can be
@@ -29,3 +29,7 @@ key (Literal l o) = number l
 abbrev pub placed : List ℕ → ℕ → List Entry → Bool
 placed places n [] = true
 placed places n (e ∷ t) = (slice_index_or places (key e.content) 0 == n) && placed places (n + 1) t
+
+-- the numerator of each measure that there can be is kept under its number; a measure without a value has 0
+abbrev pub Weighed : List ℤ → List Entry → Type 0
+Weighed numerators t = (j : ℕ) → j ≤ most_measures → slice_index_or numerators j (pos 0) ≡ value j t

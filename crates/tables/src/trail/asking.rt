@@ -1,27 +1,13 @@
-ghost use Rattle.std.specs.Prelude.{◌≡◌, ℕ, ◌<◌, ◌≤◌, true, false, MatchOption, Bool, not, neg_ℤ, length, filter, slice_index_or};
+ghost use Rattle.std.specs.Prelude.{◌≡◌, ℕ, ◌<◌, ◌≤◌, true, MatchOption, Bool, not, neg_ℤ, filter};
 ghost use Rattle.std.specs.List.{range_with_len};
-ghost use Rattle.calculus.specs.Trails.{Content, entry_for, affirms, concerns, values, was_read, reason, on_trail, false_on, false_at, taken, valued, value, choices};
+ghost use Rattle.calculus.specs.Trails.{Content, entry_for, affirms, concerns, values, was_read, reason, on_trail, false_on, false_at, taken, valued, choices};
 ghost use Rattle.tables.specs.Views.{entry_of, entries_of, Finds};
 ghost use Rattle.tables.specs.Tables.{trail_of};
 ghost use Rattle.tables.specs.Keys.{key as key_of};
 
-use super::{KEYS, MOST_MEASURES, Trail};
+use super::{MOST_MEASURES, Trail};
 use crate::entry::Entry;
 use arrayvec::ArrayVec;
-
-// For each measure, whether it has a value among the entries.
-fn valued_table(entries: &[Entry]) -> [bool; KEYS]
-    ensures long { length result ≡ 256 }
-    ensures told { (j : ℕ) → j < 256 → slice_index_or result j false ≡ valued j (entries_of entries.now) }
-{
-    let mut table = [false; KEYS];
-    for entry in entries {
-        if let Entry::Value { measure, .. } = *entry {
-            table[usize::from(measure)] = true;
-        }
-    }
-    table
-}
 
 // The measures up to this one that pass the test, in their order.
 fn those<F: Fn(u8) -> bool>(measures: u8, test: F) -> ArrayVec<u8, MOST_MEASURES>
@@ -36,15 +22,6 @@ fn those<F: Fn(u8) -> bool>(measures: u8, test: F) -> ArrayVec<u8, MOST_MEASURES
         }
     }
     those
-}
-
-// The measures up to this one that have no value among the entries, in their order. The entries are gone through once.
-pub fn unvalued(entries: &[Entry], measures: u8) -> ArrayVec<u8, MOST_MEASURES>
-    requires { measures ≤ 16 }
-    ensures { result.items ≡ filter (λ j. not (valued j (entries_of entries.now))) (range_with_len 1 measures) }
-{
-    let table = valued_table(entries);
-    those(measures, |j| !table[usize::from(j)])
 }
 
 impl Trail {
@@ -113,13 +90,6 @@ impl Trail {
         ensures { result.items ≡ filter (λ j. not (valued j (trail_of self.now))) (range_with_len 1 measures) }
     {
         those(measures, |j| !self.is_valued(j))
-    }
-
-    // The numerator of the measure, or 0.
-    pub fn value(&self, measure: u8) -> i32
-        ensures { result ≡ value measure (trail_of self.now) }
-    {
-        self.find_value(measure).map_or(0, |e| e.numerator())
     }
 
     // The level of the measure's value, or 0.

@@ -1,12 +1,25 @@
-ghost use Rattle.std.specs.Prelude.{◌≡◌, ◌-◌, true, [], ◌∷◌, ◌++◌, length, take};
-ghost use Rattle.calculus.specs.Trails.{up_to};
+ghost use Rattle.std.specs.Prelude.{◌≡◌, ◌-◌, true, List, [], ◌∷◌, ◌++◌, length, take, pos};
+ghost use Rattle.calculus.specs.Trails.{Entry as Entered, numerator as numerator_of, up_to};
 ghost use Rattle.tables.specs.Views.{entry_of};
-ghost use Rattle.tables.specs.Keys.{ranged, free};
+ghost use Rattle.tables.specs.Keys.{ranged, free, Weighed};
 ghost use Rattle.tables.specs.Tables.{trail_of};
 
-use super::{KEYS, Trail};
+use super::{KEYS, PLACES, Trail};
 use crate::entry::Entry;
 use arrayvec::ArrayVec;
+
+// Where the entry is a value: keeps this numerator for its measure, as the value comes or goes.
+fn keep(numerators: &mut [i32; PLACES], entry: Entry, numerator: i32)
+    requires in_range { ranged (entry_of entry).content ≡ true }
+    requires wide { length numerators.old ≡ 17 }
+    ensures wide { length numerators.new ≡ 17 }
+    ensures comes { (t : List Entered) → free (entry_of entry).content t ≡ true → numerator ≡ numerator_of (entry_of entry).content → Weighed numerators.old t → Weighed numerators.new (t ++ entry_of entry ∷ []) }
+    ensures goes { (t : List Entered) → free (entry_of entry).content t ≡ true → numerator ≡ pos 0 → Weighed numerators.old (t ++ entry_of entry ∷ []) → Weighed numerators.new t }
+{
+    if let Entry::Value { measure, .. } = entry {
+        numerators[usize::from(measure)] = numerator;
+    }
+}
 
 impl Trail {
     pub fn new() -> Trail
@@ -16,6 +29,7 @@ impl Trail {
             entries: ArrayVec::new(),
             places: [0; KEYS],
             count: 0,
+            numerators: [0; PLACES],
         }
     }
 
@@ -27,6 +41,7 @@ impl Trail {
     {
         self.places[usize::from(entry.key())] = self.entries.len() as u8;
         self.count += u8::from(entry.is_choice());
+        keep(&mut self.numerators, entry, entry.numerator());
         self.entries.push(entry);
     }
 
@@ -36,6 +51,7 @@ impl Trail {
     {
         if let Some(entry) = self.entries.pop() {
             self.count -= u8::from(entry.is_choice());
+            keep(&mut self.numerators, entry, 0);
         }
     }
 

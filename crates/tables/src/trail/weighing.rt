@@ -7,8 +7,7 @@ ghost use Rattle.calculus.specs.Trails.{entry_for, affirms, was_read, false_on, 
 ghost use Rattle.calculus.specs.Steps.{others, others_false, all_read};
 ghost use Rattle.tables.specs.Tables.{trail_of};
 
-use super::{MOST_MEASURES, Trail};
-use arrayvec::ArrayVec;
+use super::Trail;
 
 impl Trail {
     // All literals of the clause are false.
@@ -58,15 +57,11 @@ impl Trail {
             .all(|k| self.denial_was_read(*k))
     }
 
-    // The numerators of the first measures, in their order. They are pushed one by one: `from_iter` wants an allocator.
-    pub fn numerators(&self, measures: u8) -> ArrayVec<i32, MOST_MEASURES>
+    // The numerators of the first measures, in their order.
+    pub fn numerators(&self, measures: u8) -> &[i32]
         requires { measures ≤ 16 }
-        ensures { result.items ≡ map (λ j. value j (trail_of self.now)) (range_with_len 1 measures) }
+        ensures { result.now ≡ map (λ j. value j (trail_of self.now)) (range_with_len 1 measures) }
     {
-        let mut numerators = ArrayVec::new();
-        for j in 1..=measures {
-            numerators.push(self.value(j));
-        }
-        numerators
+        &self.numerators[1..=usize::from(measures)]
     }
 }

@@ -1,21 +1,15 @@
-use Rattle.std.proofs.Common.{map, ap, ◌∙◌, arith, rules, to_z-of_z, w32, SFits}
+use Rattle.std.proofs.Common.{◌≡◌, ℕ, ◌+◌, ◌-◌, map, take, drop, pos, ap, ◌∙◌, arith}
 use Rattle.std.specs.List.{range_with_len}
+use Rattle.std.proofs.lemmas.List.FromFn.{fill_by_all, take-map-range_with_len}
 use Rattle.calculus.specs.Trails.{value}
 use Rattle.tables.specs.Tables.{trail_of}
-use Rattle.tables.proofs.Weighing.{values_more}
 use Rattle.tables.proofs.trail.Trail.numerators.Goals as goal
 
-pub loop-j-preserved : goal.loop-j-preserved
-loop-j-preserved c =
-    let f : SFits w32 c.value.result = search rules in
-    let more = values_more (λ i. value i (trail_of c.args.self.now)) _ _ _ _ c.loop-j.invariant.1 c.loop-j.invariant.2 c.push.ensures.items (to_z-of_z f ∙ c.value.ensures) in
-    (omega (arith, c.loop-j-test.true), omega (arith, c.push.ensures.len, c.loop-j.invariant.1), more)
-
 pub returns : goal.returns
-returns c = c.loop-j.invariant.2 ∙ ap (λ n. map (λ i. value i (trail_of c.args.self.now)) (range_with_len 1 n)) (omega (arith, c.loop-j.invariant.0, c.loop-j.invariant.1, c.loop-j-test.false))
-
-pub returns-2 : goal.returns-2
-returns-2 c =
-    let f : SFits w32 c.value.result = search rules in
-    let more = values_more (λ i. value i (trail_of c.args.self.now)) _ _ _ _ c.loop-j.invariant.1 c.loop-j.invariant.2 c.push.ensures.items (to_z-of_z f ∙ c.value.ensures) in
-    more ∙ ap (λ n. map (λ i. value i (trail_of c.args.self.now)) (range_with_len 1 n)) (grind (arith, c.push.ensures.len, c.loop-j.invariant.1))
+returns c =
+    let f = λ (j : ℕ). value j (trail_of c.args.self.now) in
+    let xs = c.args.self.now.numerators in
+    let t = c.from.result in
+    let filled : xs ≡ map f (range_with_len 0 17) = fill_by_all f xs 17 (pos 0) c.args.self.now.wide (λ j l. c.args.self.now.weighed j (omega (arith, l))) in
+    let short : t + 1 - 1 ≡ t = omega arith in
+    ap (λ ys. take (t + 1 - 1) (drop 1 ys)) filled ∙ ap (λ n. take n (map f (range_with_len 1 16))) short ∙ take-map-range_with_len f 1 16 t (omega (arith, c.from.ensures, c.requires)) ∙ ap (λ n. map f (range_with_len 1 n)) c.from.ensures
