@@ -41,8 +41,7 @@ impl Arrangement {
     }
 }
 
-// Whether the trail affirms each of the first numbers, in their order. (The numerators of a trail are made alike: one
-// function over both would need a closure with a contract longer than the loop.)
+// Whether the trail affirms each of the first numbers, in their order.
 fn affirmed(trail: &Trail, count: u8) -> ArrayVec<bool, MOST_SWITCHES>
     requires { count ≤ 127 }
     ensures { result.items ≡ map (λ n. on_trail (pos n) (trail_of trail.now)) (range_with_len 1 count) }
@@ -54,6 +53,15 @@ fn affirmed(trail: &Trail, count: u8) -> ArrayVec<bool, MOST_SWITCHES>
     switches
 }
 
+fn copied(numerators: &[i32]) -> ArrayVec<i32, MOST_MEASURES>
+    requires { length numerators.now ≤ 16 }
+    ensures { result.items ≡ numerators.now }
+{
+    let mut copied = ArrayVec::new();
+    let _ = copied.try_extend_from_slice(numerators);
+    copied
+}
+
 // The arrangement that the trail makes: a switch that it does not affirm counts as no. It asks nothing of the
 // denominator, and so stands beside the claim.
 pub fn arrange<T: Theory>(theory: &T, switches: u8, denominator: u32, trail: &Trail) -> Arrangement
@@ -62,7 +70,7 @@ pub fn arrange<T: Theory>(theory: &T, switches: u8, denominator: u32, trail: &Tr
 {
     Arrangement {
         switches: affirmed(trail, switches),
-        numerators: trail.numerators(theory.measures()),
+        numerators: copied(trail.numerators(theory.measures())),
         denominator,
     }
 }

@@ -110,7 +110,7 @@ impl<T: Theory> Reading<'_, T> {
         ensures { result ≡ by_values T.Theory.kind (T.Theory.model self.now.atoms.theory.now) self.now.atoms.switches self.now.denominator (trail_of trail.now) literal }
     {
         let numerators = trail.numerators(self.atoms.theory.measures());
-        self.is_true_of(numerators.as_slice(), literal)
+        self.is_true_of(numerators, literal)
     }
 
     // Where the measure has just got its value, these are all measures that have none, and the numerators are those of now: a
@@ -135,9 +135,8 @@ impl<T: Theory> Reading<'_, T> {
     {
         let measures = self.atoms.theory.measures();
         let unvalued_now = new.unvalued(measures);
-        let numerators_now = new.numerators(measures);
         let unvalued = unvalued_now.as_slice();
-        let numerators = numerators_now.as_slice();
+        let numerators = new.numerators(measures);
         old.iter()
             .all(|e| self.stays_true(measure, unvalued, numerators, *e))
     }

@@ -20,8 +20,8 @@ returns g c just there =
     let d = r.denominator in
     let now = range_with_len 1 (K.measures m) in
     let without : c.as_slice-unvalued.result.now ≡ filter (λ j. not (valued j u)) now = c.as_slice-unvalued.ensures.value ∙ c.unvalued-unvalued_now.ensures ∙ ap (λ k. filter (λ j. not (valued j u)) (range_with_len 1 k)) c.measures-measures.ensures in
-    let values : c.as_slice-numerators.result.now ≡ numerators K m u = c.as_slice-numerators.ensures.value ∙ c.numerators-numerators_now.ensures ∙ ap (λ k. map (λ j. value j u) (range_with_len 1 k)) c.measures-measures.ensures in
-    let limited : in_limits (K.measures m) c.as_slice-numerators.result.now d ≡ true = ap (λ xs. in_limits (K.measures m) xs d) values ∙ numerators_limited K m u d c.args.new.now.tidied r.divides in
+    let values : c.numerators-numerators.result.now ≡ numerators K m u = c.numerators-numerators.ensures ∙ ap (λ k. map (λ j. value j u) (range_with_len 1 k)) c.measures-measures.ensures in
+    let limited : in_limits (K.measures m) c.numerators-numerators.result.now d ≡ true = ap (λ xs. in_limits (K.measures m) xs d) values ∙ numerators_limited K m u d c.args.new.now.tidied r.divides in
     let p = λ (e : Entry). stays_true K m r.atoms.switches d t u e.content in
     all_from_yields_List (λ e. p (entry_of e)) _ _ _ c.all.ensures.ran (YieldsList-from_slice c.args.old.now cc) (λ x b q k. search (rules, tests, just, there, without, values, limited))
     ∙ sym (list_all-map p entry_of c.args.old.now)

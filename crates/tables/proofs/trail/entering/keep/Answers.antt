@@ -1,5 +1,5 @@
 use Rattle.std.proofs.Common.{◌≡◌, ℕ, ◌≤◌, true, [], ◌∷◌, ◌++◌, set, ℤ, pos, sym, ap, ◌∙◌, subst, arith, to_z-of_z, w32, to_z, of_z}
-use Rattle.std.proofs.lemmas.Bool.{and_parts, leb-true, not-true}
+use Rattle.std.proofs.lemmas.Bool.{and_parts, not-true}
 use Rattle.calculus.specs.Limits.{most_measures, most_numerator, within, sized}
 use Rattle.calculus.specs.Trails.{Entry, numerator}
 use Rattle.tables.specs.declared.entry as code
