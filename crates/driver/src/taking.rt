@@ -1,4 +1,7 @@
 // A file taken to a session, record by record.
+ghost use Rattle.std.proofs.Common.{inr};
+ghost use Rattle.files.specs.Views.{call_view};
+ghost use Rattle.session.specs.Orders.{call_of as called};
 ghost use Rattle.files.specs.Decoding.{call_of};
 ghost use Rattle.driver.specs.Holding.{Holds};
 ghost use Rattle.driver.specs.Taking.{HasRoom, TakesRecord, TakesFile};
@@ -7,12 +10,46 @@ use crate::held::Held;
 use crate::records::order_of;
 use calculus::Theory;
 use faults::{FileFault, InputCause, SessionFault};
-use files::{FileKind, MOST_CASE_BYTES, Reader, Record, Stop};
+use files::{Call, FileKind, MOST_CASE_BYTES, Reader, Record, Stop};
 use session::Session;
+use session::replaying::Order;
 
-// Room for the literals of one record: no record of a case is longer than the case, and one of a log counts its literals
-// in a byte.
-pub(crate) type Room = [i8; MOST_CASE_BYTES];
+// Room for the literals of most records.
+pub(crate) type Room = [i8; 256];
+
+// Takes an order to the session, for a record.
+fn take_order<T: Theory>(
+    session: &mut Session<T>,
+    held: Held,
+    order: Order<'_>,
+) -> (Held, Result<(), FileFault>)
+    requires { Holds T.Theory.kind T.Theory.model held session.old }
+    ensures { TakesRecord T.Theory.kind T.Theory.model session.old (inr (called order.entry)) result session.new }
+{
+    let (held, done) = held.step(session, order);
+    (held, done.map_err(FileFault::Session))
+}
+
+// Takes a call to the session, whose literals may be as many as a case has bytes: no record of a case is longer, and one of
+// a log counts its literals in a byte. So much room is seldom needed.
+fn take_long<T: Theory>(
+    session: &mut Session<T>,
+    held: Held,
+    call: Call<'_>,
+) -> (Held, Result<(), FileFault>)
+    requires holds { Holds T.Theory.kind T.Theory.model held session.old }
+    requires room { HasRoom (inr (call_view call)) }
+    ensures { TakesRecord T.Theory.kind T.Theory.model session.old (inr (call_view call.entry)) result session.new }
+{
+    let mut room = [0; MOST_CASE_BYTES];
+    let Some(order) = order_of(call, &mut room) else {
+        return (
+            held,
+            Err(FileFault::Session(SessionFault::Input(InputCause::BadClause))),
+        );
+    };
+    take_order(session, held, order)
+}
 
 // Takes the call that a record writes to the session.
 fn take_record<T: Theory>(
@@ -30,14 +67,10 @@ fn take_record<T: Theory>(
         Ok(call) => call,
         Err(fault) => return (held, Err(fault)),
     };
-    let Some(order) = order_of(call, room) else {
-        return (
-            held,
-            Err(FileFault::Session(SessionFault::Input(InputCause::BadClause))),
-        );
-    };
-    let (held, done) = held.step(session, order);
-    (held, done.map_err(FileFault::Session))
+    match order_of(call, room) {
+        Some(order) => take_order(session, held, order),
+        None => take_long(session, held, call),
+    }
 }
 
 // Takes the records of a file to the session, up to its end or to the first that is refused.
