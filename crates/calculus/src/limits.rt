@@ -22,10 +22,11 @@ pub fn is_numerator(x: i32) -> bool
     (-MOST_NUMERATOR..=MOST_NUMERATOR).contains(&x)
 }
 
+// All are looked at, even behind one that fails, so that several can be compared at once.
 fn are_numerators(xs: &[i32]) -> bool
     ensures { result ≡ every (sized most_numerator) xs.now }
 {
-    xs.iter().all(|&x| is_numerator(x))
+    xs.iter().fold(true, |all, &x| all & is_numerator(x))
 }
 
 // Whether there is a numerator for each measure, and all numbers are within the limits.
