@@ -42,6 +42,6 @@ pub fn are_within_limits(measures: u8, numerators: &[i32], denominator: u32) -> 
 pub fn value_at(numerators: &[i32], measure: u8) -> i32
     ensures { result ≡ nth (pos 0) numerators.now measure }
 {
-    let place = usize::from(measure).checked_sub(1);
-    place.and_then(|i| numerators.get(i)).copied().unwrap_or(0)
+    let place = usize::from(measure).wrapping_sub(1);
+    numerators.get(place).copied().unwrap_or(0)
 }

@@ -1,8 +1,11 @@
 -- What a report tells of its case.
-use Rattle.std.specs.Prelude.{◌≡◌, ℕ, List, ◌++◌, codes}
+use Rattle.std.specs.Prelude.{◌≡◌, ℕ, ◌⊎◌, List, ◌++◌, codes}
+use Rattle.std.proofs.Common.{inl, inr}
+use Rattle.faults.specs.declared.InputCause.{InputCause}
 use Rattle.calculus.specs.Arrangements.{Arrangement}
 use Rattle.calculus.specs.Kinds.{Kind}
 use Rattle.calculus.specs.States.Verdict.{Impossible, Possible}
+use Rattle.files.specs.Frames.{Framed}
 use Rattle.switches.specs.Switches.{switches_only}
 use Rattle.piles.specs.Piles.{congruent_linear}
 use Rattle.verdicts.specs.Stated.{Solves}
@@ -28,3 +31,8 @@ pub record TrueOf (K : Kind) (case reported : List ℕ) : Type 0 where
 pub record Truthful (theory : ℕ) (case reported : List ℕ) : Type 0 where
   pub switches : theory ≡ 1 → TrueOf switches_only case reported
   pub pile : theory ≡ 2 → TrueOf congruent_linear case reported
+
+-- The same of the case that an input frames, where it frames one.
+abbrev pub TruthfulOf : InputCause ⊎ Framed → List ℕ → Type 0
+TruthfulOf (inl cause) reported = Unit {0}
+TruthfulOf (inr f) reported = Truthful f.theory f.case_file reported

@@ -2,10 +2,11 @@
 #![tactic(auto)]
 
 ghost use Rattle.std.specs.Prelude.{◌≡◌, take};
+ghost use Rattle.files.specs.Frames.{framed};
 ghost use Rattle.report.specs.Buffers.{Written};
 ghost use Rattle.report.specs.Views.{outcome_of};
 ghost use Rattle.checker.specs.Reports.{outcome_by, refused_with, report_by, report_of_frame};
-ghost use Rattle.checker.specs.Truth.{Truthful};
+ghost use Rattle.checker.specs.Truth.{Truthful, TruthfulOf};
 ghost use Rattle.checker.specs.Worked.{WorkedCasesStand};
 
 use faults::{FileFault, InputCause};
@@ -54,7 +55,8 @@ pub fn check(theory: u8, case: &[u8], log: &[u8], report: &mut [u8]) -> usize
 
 // The same of an input that holds the number of the theory, the case and the log in one frame.
 pub fn check_frame(input: &[u8], report: &mut [u8]) -> usize
-    ensures { Written (report_of_frame input.now) report.old result report.new }
+    ensures written { Written (report_of_frame input.now) report.old result report.new }
+    ensures truthful { TruthfulOf (framed input.now) (take result report.new) }
 {
     match Frame::of(input) {
         Ok(frame) => check(frame.theory, frame.case, frame.log, report),
