@@ -1,5 +1,5 @@
 -- What congruence over linear answers, computed: four measures, applications, atoms, and a question.
-use Rattle.std.specs.Prelude.{◌≡◌, ℕ, List, [], ◌∷◌, replicate, ℤ, pos, negsuc, Ok, Err}
+use Rattle.std.specs.Prelude.{◌≡◌, ℕ, true, List, [], ◌∷◌, replicate, ℤ, pos, negsuc, Ok, Err}
 use Rattle.std.specs.List.{AllByRecursion}
 use Rattle.faults.specs.declared.InputCause.TheVariants.{WrongLength, OutOfRange}
 use Rattle.faults.specs.declared.StateCause.TheVariants.{WrongPhase, Full}
@@ -150,10 +150,12 @@ ExamplesStand =
     × AllByRecursion (λ e. answered congruent_linear (congruent_linear.declare (made [] []) e.body) ≡ e.answer) declarations
     -- no two of these four have one function and equal arguments
     × (says_admitted congruent_linear (made binary []) (pos 0 ∷ pos 0 ∷ pos 1 ∷ pos 2 ∷ []) 1 ≡ Ok tt)
-    -- the lower layer is asked first, and its no comes up
+    -- the lower layer is asked first, and its no and its refusals come up
     × (says_admitted twice_congruent two_layers (pos 0 ∷ pos 0 ∷ pos 0 ∷ pos 1 ∷ []) 1 ≡ not_admitted 2)
     × (answered congruent_linear (congruent_linear.count (made [] []) 4) ≡ Err (theory.State WrongPhase 2))
     × (answered congruent_linear (congruent_linear.admit (made [] []) (4 ∷ [])) ≡ Err (theory.Input OutOfRange 2))
+    -- and so does what it says that an atom equates
+    × (congruent_linear.equated (made [] two_equations) 1 1 3 ≡ true)
     -- a 33rd application is refused whatever stands in it
     × (after_applications 31 ≡ Err (theory.Input WrongLength 1))
     × (after_applications 32 ≡ Err (theory.State Full 1))
