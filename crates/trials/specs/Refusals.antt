@@ -13,7 +13,7 @@ use Rattle.calculus.specs.Calls.Call.{Counts, Declare, Admit, Rule, Seal, Lemma,
 use Rattle.calculus.specs.Steps.{Reply}
 use Rattle.calculus.specs.Steps.Reply.{Done}
 use Rattle.trials.specs.Trials.{Answers}
-use Rattle.trials.specs.Runs.{four, clash, draft, zero_read}
+use Rattle.trials.specs.Runs.{four, clash, learnt, draft, zero_read}
 
 abbrev pub input : InputCause → Result Reply SessionFault
 input c = Err (session.Input c)
@@ -36,19 +36,26 @@ abbrev pub all_calls : List Call
 all_calls =
     Counts 200 200 ∷ Declare [] ∷ Admit [] ∷ Rule (pos 0 ∷ []) ∷ Seal 0 ∷ Lemma (pos 0 ∷ []) [] ∷ Choose (pos 0) ∷ Set 0 (pos 0) ∷ Propagate 0 (pos 0) ∷ Read 0 ∷ Conflict 0 ∷ Resolve 0 ∷ Jump (pos 0) ∷ Concede ∷ Claim ∷ Abandon ∷ []
 
--- 16 and 15 literals around one number: the resolvent has 30
+-- 16 and k + 1 literals around one number: the resolvent has 15 + k
 abbrev pub affirmed : ℕ → ℕ → List ℤ
 affirmed a n = map (λ j. pos j) (range_with_len a n)
 
 abbrev pub denied : ℕ → ℕ → List Call
 denied a n = map (λ j. Choose (negsuc j)) (range_with_len a n)
 
-abbrev pub long_clauses : List Call
-long_clauses = Counts 31 0 ∷ Rule (affirmed 1 16) ∷ Rule (negsuc 15 ∷ affirmed 17 15) ∷ Seal 1 ∷ denied 0 15 ++ Propagate 1 (pos 16) ∷ denied 16 15 ++ Conflict 2 ∷ []
+abbrev pub long_clauses : ℕ → List Call
+long_clauses k = Counts 31 0 ∷ Rule (affirmed 1 16) ∷ Rule (negsuc 15 ∷ affirmed 17 k) ∷ Seal 1 ∷ denied 0 15 ++ Propagate 1 (pos 16) ∷ denied 16 k ++ Conflict 2 ∷ []
 
 -- a store without room, and a conflict in it
 abbrev pub full_store : List Call
 full_store = Counts 1 0 ∷ Rule (pos 1 ∷ []) ∷ replicate 249 (Rule [])
+
+-- a lemma is learnt again by a jump, and both are false in the end, as two rules forbid the literal that was chosen
+abbrev pub forgotten : List Call
+forgotten =
+    draft ++ Declare (1 ∷ []) ∷ Rule (pos 1 ∷ negsuc 1 ∷ []) ∷ Rule (negsuc 0 ∷ negsuc 1 ∷ []) ∷ Seal 1
+    ∷ Lemma (pos 2 ∷ pos 3 ∷ []) (1 ∷ []) ∷ Set 1 (pos 0) ∷ Read 2 ∷ Read 3 ∷ Conflict 3 ∷ Jump (pos 2)
+    ∷ Propagate 1 (pos 1) ∷ Conflict 2 ∷ Resolve 1 ∷ Jump (negsuc 1) ∷ Set 1 (pos 0) ∷ []
 
 -- over switches only
 unfoldable pub switch_refusals : List Answers
@@ -72,8 +79,13 @@ switch_refusals =
     ∷ record { after = full_store; calls = Rule (pos 0 ∷ []) ∷ []; answers = state Full ∷ [] }
     ∷ record { after = full_store ++ Seal 1 ∷ []; calls = Lemma (pos 0 ∷ []) [] ∷ []; answers = state Full ∷ [] }
     ∷ record { after = full_store ++ Seal 1 ∷ Choose (negsuc 0) ∷ Conflict 1 ∷ []; calls = Jump (pos 0) ∷ Resolve 1 ∷ Concede ∷ []; answers = state Full ∷ state NotResolvable ∷ state NotAllowed ∷ [] }
-    -- a resolvent of 30 literals
-    ∷ record { after = long_clauses; calls = Resolve 16 ∷ []; answers = state ResolventTooLong ∷ [] }
+    -- a literal that is not in the clause
+    ∷ record { after = Counts 2 0 ∷ Rule (pos 1 ∷ []) ∷ Seal 1 ∷ Choose (negsuc 0) ∷ []; calls = Propagate 1 (pos 2) ∷ []; answers = state NotUnit ∷ [] }
+    -- a resolvent of 17 literals, and one of 16
+    ∷ record { after = long_clauses 2; calls = Resolve 16 ∷ []; answers = state ResolventTooLong ∷ [] }
+    ∷ record { after = long_clauses 1; calls = Resolve 16 ∷ []; answers = done ∷ [] }
+    -- the clause of a jump is stored, once
+    ∷ record { after = learnt; calls = Conflict 5 ∷ Conflict 6 ∷ []; answers = state NotFalse ∷ state Absent ∷ [] }
     -- two literals at the top level, and not both read
     ∷ record { after = clash; calls = Jump (negsuc 0) ∷ Jump (negsuc 1) ∷ Concede ∷ []; answers = state NotAllowed ∷ state NotAllowed ∷ state NotAllowed ∷ [] }
     -- an open clause of level 0 cannot be jumped from, and an empty one holds no literal
@@ -144,6 +156,14 @@ sign_refusals =
     ∷ record { after = draft ++ Declare (1 ∷ []) ∷ Rule (pos 1 ∷ []) ∷ Seal 1 ∷ []; calls = Claim ∷ []; answers = state NoValue ∷ [] }
     ∷ record { after = draft ++ Declare (1 ∷ []) ∷ Rule (pos 1 ∷ []) ∷ Seal 1 ∷ Set 1 (pos 0) ∷ []; calls = Claim ∷ []; answers = state RuleUnmet ∷ [] }
     ∷ record { after = draft ++ Declare (1 ∷ []) ∷ Rule (pos 1 ∷ []) ∷ Seal 1 ∷ Set 1 (pos 0) ∷ Choose (pos 1) ∷ []; calls = Claim ∷ []; answers = theirs_state NotAdmitted ∷ [] }
+    -- a claim judges neither lemmas nor learnt clauses: it is the theory that says no
+    ∷ record { after = forgotten; calls = Claim ∷ []; answers = theirs_state NotAdmitted ∷ [] }
+    -- a literal below the top, where all at the top were read
+    ∷ record {
+      after = draft ++ Rule (negsuc 0 ∷ pos 2 ∷ []) ∷ Seal 1 ∷ Choose (pos 1) ∷ Set 1 (pos 5) ∷ Read 2 ∷ Conflict 1 ∷ [];
+      calls = Jump (negsuc 0) ∷ Jump (pos 2) ∷ [];
+      answers = state NotAllowed ∷ done ∷ [];
+    }
     -- an open clause of two readings
     ∷ record {
       after = zero_read ++ Conflict 1 ∷ [];

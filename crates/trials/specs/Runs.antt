@@ -83,6 +83,13 @@ sign_runs =
     }
     -- second case of a jump: all at the top were read, the value and all above it goes, and the literal is chosen
     ∷ record { after = zero_read ++ Conflict 1 ∷ Jump (pos 2) ∷ []; phase = Searching; trail = literal (pos 2) Chosen 1 ∷ []; open_clause = [] }
+    -- and from level 2: the target is 1, so the choice of that level stays
+    ∷ record {
+      after = draft ++ Rule (pos 2 ∷ pos 3 ∷ []) ∷ Seal 10 ∷ Choose (pos 1) ∷ Set 1 (pos 0) ∷ Read 2 ∷ Read 3 ∷ Conflict 1 ∷ Jump (pos 2) ∷ [];
+      phase = Searching;
+      trail = literal (pos 1) Chosen 1 ∷ literal (pos 2) Chosen 2 ∷ [];
+      open_clause = [];
+    }
     -- a value must agree with what was chosen
     ∷ record {
       after = zero_read ++ Conflict 1 ∷ Jump (pos 2) ∷ Set 1 (pos 7) ∷ Set 1 (negsuc 6) ∷ Claim ∷ [];

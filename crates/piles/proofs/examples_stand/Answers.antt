@@ -2,4 +2,5 @@ use Rattle.std.proofs.Common.{refl}
 use Rattle.piles.proofs.examples_stand.Goals as goal
 
 pub returns : goal.returns
-returns c = ((refl, (refl, (refl, (refl, (refl, (refl, (refl, (refl, (refl, (refl, (refl, tt))))))))))), (refl, (refl, (refl, tt))), (refl, (refl, (refl, (refl, (refl, (refl, (refl, (refl, tt)))))))))
+returns c =
+    ((refl, (refl, (refl, (refl, (refl, (refl, (refl, (refl, (refl, (refl, (refl, (refl, (refl, (refl, (refl, (refl, tt)))))))))))))))), (refl, (refl, (refl, tt))), (refl, (refl, (refl, (refl, (refl, (refl, (refl, (refl, (refl, (refl, tt)))))))))), refl, refl, refl, refl, refl, refl, refl)
