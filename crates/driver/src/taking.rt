@@ -1,10 +1,12 @@
 // A file taken to a session, record by record.
-ghost use Rattle.std.proofs.Common.{inr};
+ghost use Rattle.std.specs.Prelude.{◌≡◌};
+ghost use Rattle.std.specs.Option.{option_map};
+ghost use Rattle.files.specs.Records.{most_case_bytes};
 ghost use Rattle.files.specs.Views.{call_view};
 ghost use Rattle.session.specs.Orders.{call_of as called};
 ghost use Rattle.files.specs.Decoding.{call_of};
 ghost use Rattle.driver.specs.Holding.{Holds};
-ghost use Rattle.driver.specs.Taking.{HasRoom, TakesRecord, TakesFile};
+ghost use Rattle.driver.specs.Taking.{fitting, HasRoom, TakesRecord, TakesFile};
 
 use crate::held::Held;
 use crate::records::order_of;
@@ -17,38 +19,21 @@ use session::replaying::Order;
 // Room for the literals of most records.
 pub(crate) type Room = [i8; 256];
 
-// Takes an order to the session, for a record.
-fn take_order<T: Theory>(
-    session: &mut Session<T>,
-    held: Held,
-    order: Order<'_>,
-) -> (Held, Result<(), FileFault>)
-    requires { Holds T.Theory.kind T.Theory.model held session.old }
-    ensures { TakesRecord T.Theory.kind T.Theory.model session.old (inr (called order.entry)) result session.new }
-{
-    let (held, done) = held.step(session, order);
-    (held, done.map_err(FileFault::Session))
-}
+// Room for the literals of any record: none of a case is longer than the case, and one of a log counts its literals in a byte.
+type MoreRoom = [i8; MOST_CASE_BYTES];
 
-// Takes a call to the session, whose literals may be as many as a case has bytes: no record of a case is longer, and one of
-// a log counts its literals in a byte. So much room is seldom needed.
-fn take_long<T: Theory>(
-    session: &mut Session<T>,
-    held: Held,
-    call: Call<'_>,
-) -> (Held, Result<(), FileFault>)
-    requires holds { Holds T.Theory.kind T.Theory.model held session.old }
-    requires room { HasRoom (inr (call_view call)) }
-    ensures { TakesRecord T.Theory.kind T.Theory.model session.old (inr (call_view call.entry)) result session.new }
+// The call with its literals in the room, or in more room that is made for them: so much is seldom needed.
+fn order_in<'a>(
+    call: Call<'a>,
+    room: &'a mut Room,
+    more: &'a mut Option<MoreRoom>,
+) -> Option<Order<'a>>
+    ensures { option_map called result ≡ fitting most_case_bytes (call_view call.entry) }
 {
-    let mut room = [0; MOST_CASE_BYTES];
-    let Some(order) = order_of(call, &mut room) else {
-        return (
-            held,
-            Err(FileFault::Session(SessionFault::Input(InputCause::BadClause))),
-        );
-    };
-    take_order(session, held, order)
+    match order_of(call, room) {
+        Some(order) => Some(order),
+        None => order_of(call, more.insert([0; MOST_CASE_BYTES])),
+    }
 }
 
 // Takes the call that a record writes to the session.
@@ -67,10 +52,15 @@ fn take_record<T: Theory>(
         Ok(call) => call,
         Err(fault) => return (held, Err(fault)),
     };
-    match order_of(call, room) {
-        Some(order) => take_order(session, held, order),
-        None => take_long(session, held, call),
-    }
+    let mut more = None;
+    let Some(order) = order_in(call, room, &mut more) else {
+        return (
+            held,
+            Err(FileFault::Session(SessionFault::Input(InputCause::BadClause))),
+        );
+    };
+    let (held, done) = held.step(session, order);
+    (held, done.map_err(FileFault::Session))
 }
 
 // Takes the records of a file to the session, up to its end or to the first that is refused.
