@@ -1,6 +1,6 @@
 -- Worked cases, with the report of each.
-use Rattle.std.specs.Prelude.{◌≡◌, ℕ, ◌-◌, ◌/◌, ◌%◌, List, [], ◌∷◌, ◌++◌, length, pos, codes}
-use Rattle.std.specs.List.{AllByRecursion}
+use Rattle.std.specs.Prelude.{◌≡◌, ℕ, ◌+◌, ◌-◌, ◌/◌, ◌%◌, List, [], ◌∷◌, ◌++◌, map, length, take, replicate, pos, codes}
+use Rattle.std.specs.List.{AllByRecursion, range_with_len}
 use Rattle.std.proofs.Common.{inl, inr}
 use Rattle.calculus.specs.States.{fresh}
 use Rattle.calculus.specs.Trails.{Entry}
@@ -9,7 +9,7 @@ use Rattle.calculus.specs.Trails.Content.{Literal}
 use Rattle.files.specs.declared.records.FileKind.TheVariants.{Case, Log}
 use Rattle.piles.specs.Piles.{congruent_linear}
 use Rattle.verdicts.specs.Outcomes.{Taken, take_file}
-use Rattle.checker.specs.Reports.{report_by}
+use Rattle.checker.specs.Reports.{report_by, report_of_frame}
 
 -- a file of these records, each a kind and a body: the version byte, and before each record its length in two bytes
 abbrev pub records : List (List ℕ) → List ℕ
@@ -89,6 +89,9 @@ concede = 19 ∷ []
 abbrev pub claim : List ℕ
 claim = 20 ∷ []
 
+abbrev pub abandon : List ℕ
+abandon = 21 ∷ []
+
 -- over congruence over linear: a case, a log and their report
 pub record Example : Type 0 where
   pub case : List ℕ
@@ -151,6 +154,70 @@ examples =
     ∷ record { case = two_bounds; log = chosen_instead; report = codes "none\n" }
     -- an empty rule is a conflict at once
     ∷ record { case = file (counts 0 0 ∷ rule [] ∷ []); log = file (seal ∷ conflict 1 ∷ concede ∷ []); report = codes "impossible\n" }
+    -- an atom of the log, true of a negative value; and a search that is given up
+    ∷ record { case = file (counts 0 1 ∷ []); log = file (seal ∷ (13 ∷ 1 ∷ minus 3) ∷ below 1 2 ∷ read 1 ∷ claim ∷ []); report = codes "possible 1\nm1 -3\n" }
+    ∷ record { case = file (counts 0 1 ∷ []); log = file (seal ∷ abandon ∷ []); report = codes "none\n" }
+    ∷ []
+
+-- over switches only: one of the two files cannot be read, or one of its records is no call
+abbrev pub unreadable : List Example
+unreadable =
+    -- no version, and the version 2
+    record { case = []; log = file []; report = codes "refused 1 file 1 record 0 byte 0 layer 0\n" }
+    ∷ record { case = file []; log = 2 ∷ []; report = codes "refused 1 file 2 record 0 byte 0 layer 0\n" }
+    -- a length that is cut short, is 0, or goes beyond the end
+    ∷ record { case = 1 ∷ 0 ∷ []; log = file []; report = codes "refused 3 file 1 record 1 byte 1 layer 0\n" }
+    ∷ record { case = 1 ∷ 0 ∷ 0 ∷ []; log = file []; report = codes "refused 3 file 1 record 1 byte 1 layer 0\n" }
+    ∷ record { case = 1 ∷ 0 ∷ 2 ∷ 4 ∷ []; log = file []; report = codes "refused 3 file 1 record 1 byte 1 layer 0\n" }
+    -- counts of one byte and of three, and a lemma of fewer literals than it says
+    ∷ record { case = file ((1 ∷ 0 ∷ []) ∷ []); log = file []; report = codes "refused 5 file 1 record 1 byte 1 layer 0\n" }
+    ∷ record { case = file ((1 ∷ 0 ∷ 0 ∷ 0 ∷ []) ∷ []); log = file []; report = codes "refused 5 file 1 record 1 byte 1 layer 0\n" }
+    ∷ record { case = file []; log = file ((11 ∷ 2 ∷ 1 ∷ []) ∷ []); report = codes "refused 5 file 2 record 1 byte 1 layer 0\n" }
+    ∷ []
+
+-- the kinds that a case does not have, and those that a log does not have
+abbrev pub not_in_case : List ℕ
+not_in_case = 0 ∷ range_with_len 5 251
+
+abbrev pub not_in_log : List ℕ
+not_in_log = 0 ∷ 1 ∷ 2 ∷ range_with_len 4 6 ++ range_with_len 22 234
+
+-- the report on a case of one record of this kind, without a body
+abbrev pub kind_in_case : ℕ → List ℕ
+kind_in_case kind = report_by 1 (file ((kind ∷ []) ∷ [])) (file [])
+
+-- and on a log of one, with a body of so many bytes
+abbrev pub body_in_log : ℕ → ℕ → List ℕ
+body_in_log kind bytes = report_by 1 (file []) (file ((kind ∷ replicate bytes 0) ∷ []))
+
+-- the kinds of a log that have bodies of one length, with that length
+abbrev pub lengths_in_log : List (ℕ × ℕ)
+lengths_in_log = (10, 4) ∷ (12, 1) ∷ (13, 5) ∷ (14, 2) ∷ (15, 1) ∷ (16, 1) ∷ (17, 1) ∷ (18, 1) ∷ (19, 0) ∷ (20, 0) ∷ (21, 0) ∷ []
+
+-- files of so many bytes: behind the version byte a record of the length 0
+abbrev pub long : ℕ → List ℕ
+long n = 1 ∷ replicate (n - 1) 0
+
+abbrev pub long_files : List Example
+long_files =
+    record { case = long 20000; log = file []; report = codes "refused 3 file 1 record 1 byte 1 layer 0\n" }
+    ∷ record { case = long 20001; log = file []; report = codes "refused 2 file 1 record 0 byte 0 layer 0\n" }
+    ∷ record { case = file []; log = long 40000; report = codes "refused 3 file 2 record 1 byte 1 layer 0\n" }
+    ∷ record { case = file []; log = long 40001; report = codes "refused 2 file 2 record 0 byte 0 layer 0\n" }
+    -- the version is looked at first
+    ∷ record { case = 2 ∷ long 20000; log = file []; report = codes "refused 1 file 1 record 0 byte 0 layer 0\n" }
+    ∷ []
+
+-- a case and its log in one frame, the case of fewer than 256 bytes
+abbrev pub frame : ℕ → List ℕ → List ℕ → List ℕ
+frame theory case log = theory ∷ word (length case) ++ case ++ log
+
+-- an input of four bytes, a case of 20,001 bytes, and a case of more bytes than follow
+abbrev pub cut_frames : List (List ℕ × List ℕ)
+cut_frames =
+    (2 ∷ 0 ∷ 0 ∷ 0 ∷ [], codes "refused 3 file 0 record 0 byte 0 layer 0\n")
+    ∷ (2 ∷ 0 ∷ 0 ∷ 78 ∷ 33 ∷ [], codes "refused 2 file 0 record 0 byte 0 layer 0\n")
+    ∷ (2 ∷ word 2 ++ file [], codes "refused 3 file 0 record 0 byte 0 layer 0\n")
     ∷ []
 
 abbrev pub then_log : List ℕ → Taken congruent_linear → Taken congruent_linear
@@ -163,5 +230,19 @@ trail_left (inr s) = s.trail
 
 pub record WorkedCasesStand : Type 0 where
   pub reports : AllByRecursion (λ e. report_by 2 e.case e.log ≡ e.report) examples
+  pub refusals : AllByRecursion (λ e. report_by 1 e.case e.log ≡ e.report) unreadable
+  -- no such kind; and bodies that are too long, too short, and right, so that the call is refused for the phase
+  pub case_kinds : map kind_in_case not_in_case ≡ replicate 252 (codes "refused 4 file 1 record 1 byte 1 layer 0\n")
+  pub log_kinds : map (λ k. body_in_log k 0) not_in_log ≡ replicate 243 (codes "refused 4 file 2 record 1 byte 1 layer 0\n")
+  pub too_long : map (λ p. body_in_log p.0 (p.1 + 1)) lengths_in_log ≡ replicate 11 (codes "refused 5 file 2 record 1 byte 1 layer 0\n")
+  pub too_short : map (λ p. body_in_log p.0 (p.1 - 1)) (take 8 lengths_in_log) ≡ replicate 8 (codes "refused 5 file 2 record 1 byte 1 layer 0\n")
+  pub right : map (λ p. body_in_log p.0 p.1) lengths_in_log ≡ replicate 11 (codes "refused 20 file 2 record 1 byte 1 layer 0\n")
+  pub lengths : AllByRecursion (λ e. report_by 1 e.case e.log ≡ e.report) long_files
+  -- over switches only, and over theories that there are not
+  pub switches : report_by 1 (file (counts 2 0 ∷ rule (1 ∷ 2 ∷ []) ∷ [])) (file (seal ∷ choose (denied 1) ∷ propagate 1 2 ∷ claim ∷ [])) ≡ codes "possible 1\ns1 no\ns2 yes\n"
+  pub others : AllByRecursion (λ n. report_by n (file []) (file []) ≡ codes "refused 6 file 0 record 0 byte 0 layer 0\n") (0 ∷ 3 ∷ [])
+  -- in one frame
+  pub framed : report_of_frame (frame 2 (file wall) (wall_values 10 (claim ∷ []))) ≡ codes "possible 1\ns1 yes\nm1 50\nm2 10\n"
+  pub unframed : AllByRecursion (λ e. report_of_frame e.0 ≡ e.1) cut_frames
   -- after that jump the literal stands alone on the trail, chosen at level 1
   pub chosen : trail_left (then_log chosen_instead (take_file congruent_linear Case two_bounds (fresh congruent_linear))) ≡ record { content = Literal (pos 1) Chosen; level = 1 } ∷ []

@@ -2,7 +2,7 @@
 use crate::making::File;
 use crate::trials::{CLAIM, SEAL};
 use crate::{FILL, Tally};
-use checker::{LEAST_BUFFER, check};
+use checker::check;
 use std::alloc::{AllocError, Global};
 use std::io;
 
@@ -225,7 +225,7 @@ fn push_line(line: &mut Vec<u8>, letter: u8, number: u8, end: &[u8]) -> Result<(
 
 // A buffer of one byte less than a report needs stays as it is (9).
 fn try_short_buffer(tally: &mut Tally) -> io::Result<()> {
-    let mut report = [FILL; LEAST_BUFFER - 1];
+    let mut report = [FILL; 2_047];
     let n = check(1, &[1], &[1], &mut report);
     let is_kept = n == 0 && report.iter().all(|b| *b == FILL);
     tally.count(
