@@ -10,7 +10,7 @@ ghost use Rattle.driver.specs.declared.held.Held.TheVariants.{Nothing};
 use crate::held::Held;
 use crate::taking::{Room, take_file};
 use calculus::Theory;
-use files::FileKind;
+use files::{FileKind, MOST_CASE_BYTES};
 use report::Outcome;
 use session::Session;
 use session::phase::Phase;
@@ -31,7 +31,7 @@ fn take_both<T: Theory>(session: &mut Session<T>, case: &[u8], log: &[u8]) -> (H
     requires { Holds T.Theory.kind T.Theory.model Nothing session.old }
     ensures { outcome_of result.1 ≡ after_case T.Theory.kind log.now (take_file T.Theory.kind Case case.now (view T.Theory.kind T.Theory.model session.old)) }
 {
-    let mut room: Room = [0; 256];
+    let mut room = [0; MOST_CASE_BYTES];
     let (held, taken) = take_file(session, Held::Nothing, FileKind::Case, case, &mut room);
     if let Err(stop) = taken {
         return (

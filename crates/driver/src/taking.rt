@@ -1,40 +1,18 @@
 // A file taken to a session, record by record.
-ghost use Rattle.std.specs.Prelude.{◌≡◌};
-ghost use Rattle.std.specs.Option.{option_map};
-ghost use Rattle.files.specs.Records.{most_case_bytes};
-ghost use Rattle.files.specs.Views.{call_view};
-ghost use Rattle.session.specs.Orders.{call_of as called};
 ghost use Rattle.files.specs.Decoding.{call_of};
 ghost use Rattle.driver.specs.Holding.{Holds};
-ghost use Rattle.driver.specs.Taking.{fitting, HasRoom, TakesRecord, TakesFile};
+ghost use Rattle.driver.specs.Taking.{HasRoom, TakesRecord, TakesFile};
 
 use crate::held::Held;
 use crate::records::order_of;
 use calculus::Theory;
 use faults::{FileFault, InputCause, SessionFault};
-use files::{Call, FileKind, MOST_CASE_BYTES, Reader, Record, Stop};
+use files::{FileKind, MOST_CASE_BYTES, Reader, Record, Stop};
 use session::Session;
-use session::replaying::Order;
 
-// Room for the literals of most records.
-pub(crate) type Room = [i8; 256];
-
-// Room for the literals of any record: none of a case is longer than the case, and one of a log counts its literals in a byte.
-type MoreRoom = [i8; MOST_CASE_BYTES];
-
-// The call with its literals in the room, or in more room that is made for them: so much is seldom needed.
-fn order_in<'a>(
-    call: Call<'a>,
-    room: &'a mut Room,
-    more: &'a mut Option<MoreRoom>,
-) -> Option<Order<'a>>
-    ensures { option_map called result ≡ fitting most_case_bytes (call_view call.entry) }
-{
-    match order_of(call, room) {
-        Some(order) => Some(order),
-        None => order_of(call, more.insert([0; MOST_CASE_BYTES])),
-    }
-}
+// Room for the literals of one record: no record of a case is longer than the case, and one of a log counts its literals
+// in a byte.
+pub(crate) type Room = [i8; MOST_CASE_BYTES];
 
 // Takes the call that a record writes to the session.
 fn take_record<T: Theory>(
@@ -52,8 +30,7 @@ fn take_record<T: Theory>(
         Ok(call) => call,
         Err(fault) => return (held, Err(fault)),
     };
-    let mut more = None;
-    let Some(order) = order_in(call, room, &mut more) else {
+    let Some(order) = order_of(call, room) else {
         return (
             held,
             Err(FileFault::Session(SessionFault::Input(InputCause::BadClause))),
