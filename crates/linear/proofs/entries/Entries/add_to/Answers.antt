@@ -29,25 +29,25 @@ loop-e-preserved c =
     let old = c.args.sums.now in
     elim c.if-place-lt-PLACES.branch [
       | then-place-lt-PLACES w ↦ (
-        let low = w.if-place-lt-PLACES.true in
-        let small = w.product.ensures.small in
-        let x = w.from.result in
-        let room = c.loop-e.invariant.2 _ c.requires.room m low in
-        let few = c.as_slice-entries.ensures.few in
-        let near = small_at es i c.as_slice-entries.ensures.small l in
-        let fits : SFits w32 e.coefficient = omega (arith, ints, near) in
-        let same : x ≡ w.product.result = omega (arith, ints, w.from.ensures, small) in
-        let is : x ≡ f *ℤ e.coefficient = same ∙ w.product.ensures.value ∙ ap (λ z. f *ℤ z) (to_z-of_z w32 e.coefficient fits) in
-        let y = to_z w128 (of_z w128 (to_z w128 (of_z w128 (get_or sums m (pos 0))) +ℤ to_z w128 (of_z w128 x))) in
-        let now : y ≡ get_or sums m (pos 0) +ℤ x = omega (arith, ints, room, few, small, same) in
-        let k : nat_abs x ≤ 160000000000000000 = omega (arith, ints, same, small) in
-        let long = c.loop-e.invariant.0 in
-        let at = c.from-place.ensures in (
-          ap length w.sums-is ∙ length-set sums m y ∙ long,
-          λ j h. ap (λ s. get_or s j (pos 0)) w.sums-is ∙ column_more es i l f sums long m low at x y is now old c.loop-e.invariant.1 j h,
-          λ b h j q. omega (arith, ap (λ s. nat_abs (get_or s j (pos 0))) w.sums-is, column_small es i l f sums long m low at x y is now (b + i * 160000000000000000) k (c.loop-e.invariant.2 b h) j q),
-        )
-      )
+          let low = w.if-place-lt-PLACES.true in
+          let small = w.product.ensures.small in
+          let x = w.from.result in
+          let room = c.loop-e.invariant.2 _ c.requires.room m low in
+          let few = c.as_slice-entries.ensures.few in
+          let near = small_at es i c.as_slice-entries.ensures.small l in
+          let fits : SFits w32 e.coefficient = omega (arith, ints, near) in
+          let same : x ≡ w.product.result = omega (arith, ints, w.from.ensures, small) in
+          let is : x ≡ f *ℤ e.coefficient = same ∙ w.product.ensures.value ∙ ap (λ z. f *ℤ z) (to_z-of_z w32 e.coefficient fits) in
+          let y = to_z w128 (of_z w128 (to_z w128 (of_z w128 (get_or sums m (pos 0))) +ℤ to_z w128 (of_z w128 x))) in
+          let now : y ≡ get_or sums m (pos 0) +ℤ x = omega (arith, ints, room, few, small, same) in
+          let k : nat_abs x ≤ 160000000000000000 = omega (arith, ints, same, small) in
+          let long = c.loop-e.invariant.0 in
+          let at = c.from-place.ensures in (
+            ap length w.sums-is ∙ length-set sums m y ∙ long,
+            λ j h. ap (λ s. get_or s j (pos 0)) w.sums-is ∙ column_more es i l f sums long m low at x y is now old c.loop-e.invariant.1 j h,
+            λ b h j q. omega (arith, ap (λ s. nat_abs (get_or s j (pos 0))) w.sums-is, column_small es i l f sums long m low at x y is now (b + i * 160000000000000000) k (c.loop-e.invariant.2 b h) j q),
+          )
+          )
       | else-place-lt-PLACES w ↦ (
         ap length w.sums-is ∙ c.loop-e.invariant.0,
         λ j h. ap (λ s. get_or s j (pos 0)) w.sums-is ∙ column_same es i l f (get_or sums j (pos 0)) (get_or old j (pos 0)) j (λ q. omega (arith, q, h, w.if-place-lt-PLACES.false, c.from-place.ensures)) (c.loop-e.invariant.1 j h),
