@@ -99,11 +99,11 @@ pub record Example : Type 0 where
   pub report : List ℕ
 
 -- A wall of 60, with two parts and one switch: 2 is m1 + m2 ≤ 60, 3 is m1 < 50, 4 is m2 < 12. The parts fit, the first is at
--- least 50, and the second at least 12 if the switch is on.
+-- least 50, and the second at least 12 if the switch is off.
 abbrev pub wall : List (List ℕ)
 wall = counts 1 2 ∷ fit_in_60 ∷ below 1 50 ∷ below 2 12 ∷ rule (2 ∷ []) ∷ rule (denied 3 ∷ []) ∷ rule (1 ∷ denied 4 ∷ []) ∷ []
 
--- also if it is off
+-- also if it is on
 abbrev pub full_wall : List ℕ
 full_wall = file (wall ++ rule (denied 1 ∷ denied 4 ∷ []) ∷ [])
 

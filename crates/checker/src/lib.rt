@@ -8,6 +8,8 @@ ghost use Rattle.report.specs.Views.{outcome_of};
 ghost use Rattle.checker.specs.Reports.{outcome_by, refused_with, report_by, report_of_frame};
 ghost use Rattle.checker.specs.Truth.{Truthful, TruthfulOf};
 ghost use Rattle.checker.specs.Worked.{WorkedCasesStand};
+ghost use Rattle.checker.specs.Solutions.{SolutionsStand};
+ghost use Rattle.checker.specs.Untrue.{UntrueRefuted};
 
 use faults::{FileFault, InputCause};
 use files::{Frame, Stop};
@@ -67,4 +69,14 @@ pub fn check_frame(input: &[u8], report: &mut [u8]) -> usize
 // The worked cases have the reports that their table says.
 pub fn worked_cases_stand()
     ensures { WorkedCasesStand }
+{}
+
+// Of two of them: which arrangements solve the case.
+pub fn solutions_stand()
+    ensures { SolutionsStand }
+{}
+
+// Some reports are not true of their cases.
+pub fn untrue_reports_refuted()
+    ensures { UntrueRefuted }
 {}

@@ -59,7 +59,7 @@ const EQUAL_1_3: &[u8] = &[3, 3, 2, 1, 0, 0, 0, 1, 3, 255, 255, 255, 255, 0, 0, 
 const EQUAL_2_4: &[u8] = &[3, 3, 2, 2, 0, 0, 0, 1, 4, 255, 255, 255, 255, 0, 0, 0, 0];
 
 // A wall of 60 for two parts and one switch: they fit, the first is at least 50, and the second at least 12 if the switch
-// is on; in the full wall also if it is off.
+// is off; in the full wall also if it is on.
 const WALL: &[&[u8]] = &[
     &[1, 1, 2],
     FIT_IN_60,
