@@ -1,11 +1,8 @@
 -- Reports that are not true of their cases.
-use Rattle.std.specs.Prelude.{ℕ, List, [], ◌∷◌, codes}
+use Rattle.std.specs.Prelude.{codes}
 use Rattle.checker.specs.Truth.{Truthful}
-use Rattle.checker.specs.Worked.{file, counts, rule, denied, wall}
-
--- two switches, of which one is to be off
-abbrev pub not_both : List ℕ
-not_both = file (counts 2 0 ∷ rule (denied 1 ∷ denied 2 ∷ []) ∷ [])
+use Rattle.checker.specs.Worked.{file, wall}
+use Rattle.checker.specs.Solutions.{not_both}
 
 -- each case has arrangements that solve it, and the one that is printed here does not
 pub record UntrueRefuted : Type 0 where

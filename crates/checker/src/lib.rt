@@ -71,7 +71,7 @@ pub fn worked_cases_stand()
     ensures { WorkedCasesStand }
 {}
 
-// Of two of them: which arrangements solve the case.
+// Which arrangements solve three small cases, and which do not.
 pub fn solutions_stand()
     ensures { SolutionsStand }
 {}

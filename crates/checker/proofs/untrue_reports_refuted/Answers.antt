@@ -11,7 +11,7 @@ use Rattle.report.specs.Telling.{Sized}
 use Rattle.verdicts.specs.Stated.{Solves}
 use Rattle.checker.specs.Truth.{TrueOf}
 use Rattle.checker.specs.Worked.{file, wall}
-use Rattle.checker.specs.Untrue.{not_both}
+use Rattle.checker.specs.Solutions.{not_both}
 use Rattle.checker.proofs.untrue_reports_refuted.Goals as goal
 
 -- of a true report, the arrangement that is printed solves the case
