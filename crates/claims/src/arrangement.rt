@@ -1,21 +1,22 @@
 ghost use Rattle.std.specs.Prelude.{◌≡◌, ◌≤◌, length, map, pos};
 ghost use Rattle.std.specs.List.{range_with_len};
+ghost use Rattle.fixedvec.specs.Items.{items_of};
 ghost use Rattle.calculus.specs.Trails.{on_trail};
 ghost use Rattle.tables.specs.Tables.{trail_of};
 ghost use Rattle.claims.specs.Arranging.{arrangement};
 ghost use Rattle.claims.specs.Views.{arrangement_of};
 
-use arrayvec::ArrayVec;
 use calculus::Theory;
+use fixedvec::FixedVec;
 use tables::trail::{MOST_MEASURES, Trail};
 
 const MOST_SWITCHES: usize = 127;
 
 // Yes or no for each switch, and for each measure a numerator over one denominator.
-#[derive(Clone, Drop)]
+#[derive(Clone, Copy)]
 pub struct Arrangement {
-    switches: ArrayVec<bool, MOST_SWITCHES>,
-    numerators: ArrayVec<i32, MOST_MEASURES>,
+    switches: FixedVec<bool, MOST_SWITCHES>,
+    numerators: FixedVec<i32, MOST_MEASURES>,
     denominator: u32,
 }
 
@@ -42,22 +43,22 @@ impl Arrangement {
 }
 
 // Whether the trail affirms each of the first numbers, in their order.
-fn affirmed(trail: &Trail, count: u8) -> ArrayVec<bool, MOST_SWITCHES>
+fn affirmed(trail: &Trail, count: u8) -> FixedVec<bool, MOST_SWITCHES>
     requires { count ≤ 127 }
-    ensures { result.items ≡ map (λ n. on_trail (pos n) (trail_of trail.now)) (range_with_len 1 count) }
+    ensures { items_of result ≡ map (λ n. on_trail (pos n) (trail_of trail.now)) (range_with_len 1 count) }
 {
-    let mut switches = ArrayVec::new();
+    let mut switches = FixedVec::new();
     for n in 1..count + 1 {
         switches.push(trail.affirms(n as i8));
     }
     switches
 }
 
-fn copied(numerators: &[i32]) -> ArrayVec<i32, MOST_MEASURES>
+fn copied(numerators: &[i32]) -> FixedVec<i32, MOST_MEASURES>
     requires { length numerators.now ≤ 16 }
-    ensures { result.items ≡ numerators.now }
+    ensures { items_of result ≡ numerators.now }
 {
-    let mut copied = ArrayVec::new();
+    let mut copied = FixedVec::new();
     let _ = copied.try_extend_from_slice(numerators);
     copied
 }

@@ -1,5 +1,5 @@
 -- What the proofs of the sums want: one more summand.
-use Rattle.std.proofs.Common.{◌≡◌, ℕ, zero, suc, ◌+◌, ◌*◌, ◌<◌, ◌≤◌, Bool, true, List, [], ◌∷◌, ◌++◌, length, get_or, take, ℤ, pos, negsuc, ◌+ℤ◌, ◌*ℤ◌, nat_abs, sym, ap, ◌∙◌, ap₂, arith, w32, w64, SFits, to_z, of_z}
+use Rattle.std.proofs.Common.{◌≡◌, ℕ, zero, suc, ◌+◌, ◌*◌, ◌<◌, ◌≤◌, Bool, true, List, [], ◌∷◌, ◌++◌, length, get_or, take, ℤ, pos, negsuc, neg_ℤ, ◌+ℤ◌, ◌*ℤ◌, nat_abs, sym, ap, ◌∙◌, ap₂, arith, w32, w64, SFits, to_z, of_z}
 use lib.IntN.{+ℤ_idl, +ℤ_idr, +ℤ_assoc}
 use Rattle.std.proofs.lemmas.Int.{ints, to_z-of_z}
 use Rattle.std.proofs.lemmas.List.{take_more}
@@ -31,3 +31,8 @@ pub every_at : {X : Type 0} (p : X → Bool) (xs : List X) (i : ℕ) (d : X) →
 every_at p [] i d t h = absurd (omega arith)
 every_at p (x ∷ xs) zero d t h = (and_parts (p x) (every p xs) t).0
 every_at p (x ∷ xs) (suc i) d t h = every_at p xs i d (and_parts (p x) (every p xs) t).1 (omega arith)
+
+pub sized_turned : (n : ℕ) (z : ℤ) → sized n z ≡ true → sized n (neg_ℤ z) ≡ true
+sized_turned n (pos zero) t = t
+sized_turned n (pos (suc a)) t = t
+sized_turned n (negsuc a) t = t

@@ -1,5 +1,6 @@
 // Atoms: a relation, entries of a measure and a coefficient each, and a constant.
 ghost use Rattle.std.specs.Prelude.{◌≡◌, ℕ, ◌<◌, ◌≤◌, true, false, nat_eq, slice_index_or};
+ghost use Rattle.fixedvec.specs.Items.{items_of};
 ghost use Rattle.calculus.specs.Limits.{sized, most_numerator, most_denominator};
 ghost use Rattle.calculus.specs.Lists.{every, some};
 ghost use Rattle.rows.specs.Bounds.{most_size};
@@ -11,13 +12,13 @@ use crate::entries::{Entries, Flags, PLACES};
 use rows::Relation;
 
 // Which measures it mentions is kept beside its entries, so that no question goes through these.
-#[derive(Drop)]
+#[derive(Clone, Copy)]
 pub struct Atom {
     pub relation: Relation,
     pub mentioned: Flags,
     pub constant: i32,
     pub entries: Entries,
-    ghost told: { (j : ℕ) → j < 17 → slice_index_or mentioned j false ≡ some (λ e. nat_eq e.measure j) entries.items.items },
+    ghost told: { (j : ℕ) → j < 17 → slice_index_or mentioned j false ≡ some (λ e. nat_eq e.measure j) (items_of entries.items) },
     ghost near: { sized most_size constant ≡ true },
 }
 

@@ -1,5 +1,6 @@
 // Reading an atom from the bytes of its body.
 ghost use Rattle.std.specs.Prelude.{◌≡◌, ◌+◌, ◌*◌, ◌<◌, ◌≤◌, true, false, length, MatchOption, ◌==◌};
+ghost use Rattle.fixedvec.specs.Items.{items_of};
 ghost use Rattle.calculus.specs.Limits.{sized, most_measures};
 ghost use Rattle.rows.specs.Bounds.{most_size};
 ghost use Rattle.rows.specs.Bodies.{byte_at, word_at, relation_of, entry_at, entries_in, row_in, follows as may_follow, in_order, proper_row};
@@ -59,7 +60,7 @@ fn follows(e: &Entry, last: u8, measures: u8) -> bool
 fn entries(body: &[u8], count: u8, measures: u8) -> Option<Entries>
     requires long { length body.now ≡ 6 + 5 * count }
     requires few { measures ≤ most_measures }
-    ensures { MatchOption result (in_order measures 0 (entries_in body.now count) ≡ false) (λ es. (in_order measures 0 (entries_in body.now count) ≡ true) × (es.items.items ≡ entries_in body.now count)) }
+    ensures { MatchOption result (in_order measures 0 (entries_in body.now count) ≡ false) (λ es. (in_order measures 0 (entries_in body.now count) ≡ true) × (items_of es.items ≡ entries_in body.now count)) }
 {
     let mut entries = Entries::default();
     let mut last = 0;

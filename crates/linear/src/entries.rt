@@ -5,12 +5,12 @@ ghost use Rattle.rows.specs.Bounds.{most_size};
 ghost use Rattle.calculus.specs.Lists.{every, some};
 ghost use Rattle.rows.specs.Rows.{weight, coefficient_of, turned_entry};
 ghost use Rattle.rows.specs.Linear.{on_both, opposite as opposite_entries, opposed as opposed_entries};
-ghost use Rattle.arrayvec.specs.ArrayVec.{array_vec_len};
+ghost use Rattle.fixedvec.specs.Items.{items_of};
 ghost use Rattle.linear.specs.Sizes.{small_entries, most_sum, most_product, most_row, most_before};
 
 use crate::bounds::MOST_ENTRIES;
-use arrayvec::ArrayVec;
 use calculus::limits::value_at;
+use fixedvec::FixedVec;
 use rows::Entry;
 
 // Measures are counted from 1 to 16.
@@ -59,26 +59,26 @@ fn turned_entry(e: &Entry) -> Entry
 }
 
 // The entries of a row, with coefficients in their range.
-#[derive(Drop, PartialEq)]
+#[derive(Clone, Copy, PartialEq)]
 pub struct Entries {
-    items: ArrayVec<Entry, MOST_ENTRIES>,
-    ghost small: { small_entries items.items ≡ true },
+    items: FixedVec<Entry, MOST_ENTRIES>,
+    ghost small: { small_entries (items_of items) ≡ true },
 }
 
 // Without entries. A derive gives no value to a ghost field.
 impl Default for Entries {
-    ghost is_default = { λ es. es.items.items ≡ [] };
+    ghost is_default = { λ es. items_of es.items ≡ [] };
 
     fn default() -> Self {
         Entries {
-            items: ArrayVec::new(),
+            items: FixedVec::new(),
         }
     }
 }
 
 impl Entries {
     pub fn as_slice(&self) -> &[Entry]
-        ensures value { result.now ≡ self.now.items.items }
+        ensures value { result.now ≡ items_of self.now.items }
         ensures few { length result.now ≤ most_measures }
         ensures small { small_entries result.now ≡ true }
     {
@@ -86,9 +86,9 @@ impl Entries {
     }
 
     pub fn push(&mut self, entry: Entry)
-        requires room { array_vec_len self.old.items < most_measures }
+        requires room { length (items_of self.old.items) < most_measures }
         requires small { sized most_size entry.coefficient ≡ true }
-        ensures { self.new.items.items ≡ self.old.items.items ++ entry ∷ [] }
+        ensures { items_of self.new.items ≡ items_of self.old.items ++ entry ∷ [] }
     {
         self.items.push(entry);
     }
@@ -96,7 +96,7 @@ impl Entries {
     // The sum of coefficient times numerator.
     pub fn weighed(&self, numerators: &[i32]) -> i64
         requires { every (sized most_numerator) numerators.now ≡ true }
-        ensures { result ≡ weight self.now.items.items numerators.now }
+        ensures { result ≡ weight (items_of self.now.items) numerators.now }
     {
         // a `for` loop: the library's `sum` of signed numbers needs a bound on every partial sum
         let entries = self.as_slice();
@@ -111,7 +111,7 @@ impl Entries {
     pub fn add_to(&self, factor: i32, sums: &mut Sums)
         requires factor { unsigned_abs factor ≤ most_size }
         requires room { (j : ℕ) → j < 17 → unsigned_abs (slice_index_or sums.old j (pos 0)) ≤ most_before }
-        ensures sums { (j : ℕ) → j < 17 → slice_index_or sums.new j (pos 0) ≡ slice_index_or sums.old j (pos 0) +ℤ factor *ℤ coefficient_of j self.now.items.items }
+        ensures sums { (j : ℕ) → j < 17 → slice_index_or sums.new j (pos 0) ≡ slice_index_or sums.old j (pos 0) +ℤ factor *ℤ coefficient_of j (items_of self.now.items) }
         ensures small { (b : ℕ) → ((j : ℕ) → j < 17 → unsigned_abs (slice_index_or sums.old j (pos 0)) ≤ b) → (j : ℕ) → j < 17 → unsigned_abs (slice_index_or sums.new j (pos 0)) ≤ b + most_row }
     {
         let entries = self.as_slice();
@@ -125,15 +125,15 @@ impl Entries {
 
     // Whether an entry is on the measure.
     pub fn mentions(&self, measure: u8) -> bool
-        ensures { result ≡ some (λ e. nat_eq e.measure measure) self.now.items.items }
+        ensures { result ≡ some (λ e. nat_eq e.measure measure) (items_of self.now.items) }
     {
-        self.items.iter().any(|e| e.measure == measure)
+        self.as_slice().iter().any(|e| e.measure == measure)
     }
 
     // The same for each measure that there can be, in one pass.
     pub fn mentioned(&self) -> Flags
         ensures long { length result ≡ 17 }
-        ensures told { (j : ℕ) → j < 17 → slice_index_or result j false ≡ some (λ e. nat_eq e.measure j) self.now.items.items }
+        ensures told { (j : ℕ) → j < 17 → slice_index_or result j false ≡ some (λ e. nat_eq e.measure j) (items_of self.now.items) }
     {
         let entries = self.as_slice();
         let mut flags = [false; PLACES];
@@ -147,7 +147,7 @@ impl Entries {
 
     // All signs turned. They are pushed one by one: `from_iter` wants an allocator.
     pub fn turned(&self) -> Self
-        ensures { result.items.items ≡ map turned_entry self.now.items.items }
+        ensures { items_of result.items ≡ map turned_entry (items_of self.now.items) }
     {
         let entries = self.as_slice();
         let mut turned = Entries::default();
@@ -159,7 +159,7 @@ impl Entries {
 
     // Whether there is one entry on i and one on j, with opposite coefficients that are not 0.
     pub fn opposed(&self, i: u8, j: u8) -> bool
-        ensures { result ≡ opposed_entries i j self.now.items.items }
+        ensures { result ≡ opposed_entries i j (items_of self.now.items) }
     {
         let [e, f] = self.as_slice() else {
             return false;

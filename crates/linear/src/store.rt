@@ -6,13 +6,13 @@ ghost use Rattle.rows.specs.Linear.{linear, atom as row_at};
 
 use crate::atoms::Atom;
 use crate::bounds::MOST_ATOMS;
-use arrayvec::ArrayVec;
 use calculus::limits::is_within;
+use fixedvec::FixedVec;
 
-#[derive(Drop)]
+#[derive(Clone, Copy)]
 pub struct Linear {
     pub(crate) measures: Option<u8>,
-    pub(crate) atoms: ArrayVec<Atom, MOST_ATOMS>,
+    pub(crate) atoms: FixedVec<Atom, MOST_ATOMS>,
     ghost few: { unwrap_or measures 0 ≤ most_measures },
 }
 
@@ -25,7 +25,7 @@ impl Linear {
     {
         Linear {
             measures: None,
-            atoms: ArrayVec::new(),
+            atoms: FixedVec::new(),
         }
     }
 
@@ -35,7 +35,7 @@ impl Linear {
         ensures row { IfSome result (λ a. row a.now ≡ row_at (table self.now) number) }
     {
         let place = usize::from(number).checked_sub(1)?;
-        self.atoms.get(place)
+        self.atoms.as_slice().get(place)
     }
 
     // How many measures there are.

@@ -65,12 +65,14 @@ fn write_end(
     }
 }
 
-// Where the lines go, the session that the records are taken to, and room for the literals of one.
+// Where the lines go, the session that the records are taken to, room for the literals of one, and the denominator of the
+// values.
 #[derive(Drop)]
 struct Lister<'a, T: Theory> {
     rt: &'a HostRuntime,
     session: Session<T>,
     room: [i8; MOST_CASE_BYTES],
+    denominator: u32,
 }
 
 impl<T: Theory> Lister<'_, T> {
@@ -89,7 +91,13 @@ impl<T: Theory> Lister<'_, T> {
                     start: record.start,
                     call,
                 };
-                let (held, done) = take(&mut self.session, held, call, &mut self.room);
+                let (held, done) = take(
+                    &mut self.session,
+                    held,
+                    call,
+                    &mut self.room,
+                    &mut self.denominator,
+                );
                 (held, write_line(self.rt, line, done))
             }
             Err(fault) => (held, Ok(Some(fault))),
@@ -152,6 +160,7 @@ fn list_over<T: Theory + Drop>(rt: &HostRuntime, frame: Frame, name: &str) -> io
         rt,
         session: Session::<T>::new(),
         room: [0; MOST_CASE_BYTES],
+        denominator: 1,
     };
     let (held, written) = lister.list_both(frame);
     let Lister { session, .. } = lister;

@@ -17,22 +17,27 @@ pub fn is_closed<T: Theory>(session: &Session<T>) -> bool {
 }
 
 // Takes one call: what is held goes in, and what is held then comes out. No record of a case or a log writes more
-// literals than there is room for.
+// literals than there is room for. The denominator is that of the values, once it is sealed.
 pub fn take<T: Theory>(
     session: &mut Session<T>,
     held: Held,
     call: Call,
     room: &mut [i8],
+    denominator: &mut u32,
 ) -> (Held, Result<Done, SessionFault>) {
     let Some(order) = order_of(call, room) else {
         return (held, Err(SessionFault::Input(InputCause::BadClause)));
     };
     let (held, taken) = held.step(session, order);
-    (held, taken.map(|()| done_by(session, call)))
+    if let (Ok(()), Call::Seal(sealed)) = (&taken, call) {
+        *denominator = sealed;
+    }
+    let divisor = *denominator;
+    (held, taken.map(|()| done_by(session, call, divisor)))
 }
 
 // What a call did that was taken, seen on the session that it left.
-fn done_by<T: Theory>(session: &Session<T>, call: Call) -> Done {
+fn done_by<T: Theory>(session: &Session<T>, call: Call, denominator: u32) -> Done {
     match call {
         Call::Counts { .. } => Done::Counted,
         Call::Declare(_) => Done::Declared,
@@ -43,7 +48,7 @@ fn done_by<T: Theory>(session: &Session<T>, call: Call) -> Done {
         Call::Seal(_) => Done::Sealed,
         Call::Lemma { .. } => Done::Vouched(session.store().len()),
         Call::Choose(_) | Call::Set { .. } | Call::Propagate { .. } | Call::Read(_) => {
-            entered(session)
+            entered(session, denominator)
         }
         Call::Conflict(_) => Done::Opened(open_clause(session)),
         Call::Resolve(_) => Done::Resolved(open_clause(session)),
@@ -55,11 +60,11 @@ fn done_by<T: Theory>(session: &Session<T>, call: Call) -> Done {
 }
 
 // What has just entered the trail, as its last entry.
-fn entered<T: Theory>(session: &Session<T>) -> Done {
+fn entered<T: Theory>(session: &Session<T>, denominator: u32) -> Done {
     match session.trail().entries().last() {
         Some(entry) => Done::Entered {
             entry: *entry,
-            denominator: session.arrangement().denominator(),
+            denominator,
         },
         None => Done::Nothing,
     }

@@ -13,7 +13,7 @@ pub const LEAST_BUFFER: usize = 2048;
 
 // A verdict, or the file, by its number, in which something is refused, and where. Files are numbered from 1; 0 is none.
 // The file is a number, since a type of the two files would ask more of callers than any number does.
-#[derive(Clone, Drop)]
+#[derive(Clone, Copy)]
 pub enum Outcome {
     Impossible,
     Possible(Arrangement),

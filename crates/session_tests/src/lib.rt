@@ -7,6 +7,8 @@ mod calling;
 #[cfg(test)]
 mod cases;
 #[cfg(test)]
+mod copies;
+#[cfg(test)]
 mod pictures;
 #[cfg(test)]
 mod refusals;

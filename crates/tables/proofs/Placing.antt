@@ -3,6 +3,7 @@ use Rattle.std.proofs.Common.{◌≡◌, ℕ, zero, suc, ◌+◌, ◌-◌, ◌<�
 use Rattle.std.specs.List.{AllByRecursion}
 use Rattle.std.proofs.lemmas.Bool.{true≢false, and_parts, and_from, or_parts, or_from, or_left, or_right, cases_Bool, eqb-true, eqb-false, eq-eqb, ltb-true, leb-true, cond-true, cond-false}
 use Rattle.std.proofs.lemmas.List.{get_or-set_same, get_or-set_other, get_or-map, length-map}
+use Rattle.fixedvec.specs.Items.{items_of}
 use Rattle.calculus.specs.Limits.{most_numbers, most_measures, most_numerator, within, sized}
 use Rattle.calculus.specs.Literals.{number}
 use Rattle.calculus.specs.Trails.{Content, Entry, no_entry, entry_for, has_entry, affirms, concerns, values}
@@ -106,18 +107,18 @@ module _ (p : Content → Bool) (k : ℕ) (under : (c : Content) → p c ≡ tru
     all : Nothing (trail_of t) ⊎ ((j : ℕ) × (get_or t.places k 0 ≡ 0 + j) × Stands (trail_of t) j)
     all = sought t.places 0 (trail_of t) t.found
 
-    at_place : (d : code.Entry.Entry) → i < length t.entries.items → get_or (trail_of t) i no_entry ≡ entry_of (get_or t.entries.items i d)
-    at_place d l = get_or-map entry_of t.entries.items i d no_entry l
+    at_place : (d : code.Entry.Entry) → i < length (items_of t.entries) → get_or (trail_of t) i no_entry ≡ entry_of (get_or (items_of t.entries) i d)
+    at_place d l = get_or-map entry_of (items_of t.entries) i d no_entry l
 
-    pub stands : (e : code.Entry.Entry) → i < length t.entries.items → e ≡ get_or t.entries.items i e → p (entry_of e).content ≡ true → (has_entry p (trail_of t) ≡ true) × (entry_for p (trail_of t) ≡ entry_of e)
+    pub stands : (e : code.Entry.Entry) → i < length (items_of t.entries) → e ≡ get_or (items_of t.entries) i e → p (entry_of e).content ≡ true → (has_entry p (trail_of t) ≡ true) × (entry_for p (trail_of t) ≡ entry_of e)
     stands e l is y =
         let it : get_or (trail_of t) i no_entry ≡ entry_of e = at_place e l ∙ ap entry_of (sym is) in
         ⊎_elim
-        (λ q. absurd (true≢false (sym y ∙ ap (λ f. p f.content) (sym it) ∙ none_at (trail_of t) i q.0 (omega (arith, l, length-map t.entries.items entry_of)))))
+        (λ q. absurd (true≢false (sym y ∙ ap (λ f. p f.content) (sym it) ∙ none_at (trail_of t) i q.0 (omega (arith, l, length-map (items_of t.entries) entry_of)))))
         (λ q. let same : q.0 ≡ i = omega (arith, q.1, kept) in (q.2.2, q.2.3 ∙ ap (λ j. get_or (trail_of t) j no_entry) same ∙ it))
         all
 
-    pub fails : (e : code.Entry.Entry) → i < length t.entries.items → e ≡ get_or t.entries.items i e → p (entry_of e).content ≡ false → Nothing (trail_of t)
+    pub fails : (e : code.Entry.Entry) → i < length (items_of t.entries) → e ≡ get_or (items_of t.entries) i e → p (entry_of e).content ≡ false → Nothing (trail_of t)
     fails e l is z =
         let it : get_or (trail_of t) i no_entry ≡ entry_of e = at_place e l ∙ ap entry_of (sym is) in
         ⊎_elim
@@ -125,5 +126,5 @@ module _ (p : Content → Bool) (k : ℕ) (under : (c : Content) → p c ≡ tru
         (λ q. let same : q.0 ≡ i = omega (arith, q.1, kept) in absurd (true≢false (sym q.2.1 ∙ ap (λ j. p (get_or (trail_of t) j no_entry).content) same ∙ ap (λ f. p f.content) it ∙ z)))
         all
 
-    pub behind : length t.entries.items ≤ i → Nothing (trail_of t)
-    behind l = ⊎_elim (λ q. q) (λ q. absurd (omega (arith, l, q.1, kept, q.2.0, length-map t.entries.items entry_of))) all
+    pub behind : length (items_of t.entries) ≤ i → Nothing (trail_of t)
+    behind l = ⊎_elim (λ q. q) (λ q. absurd (omega (arith, l, q.1, kept, q.2.0, length-map (items_of t.entries) entry_of))) all

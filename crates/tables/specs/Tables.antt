@@ -1,5 +1,6 @@
 -- What the tables stand for.
 use Rattle.std.specs.Prelude.{◌≡◌, true, false, List, map, length, ℤ, Option, MatchOption, nat_le}
+use Rattle.fixedvec.specs.Items.{items_of}
 use Rattle.calculus.specs.Limits.{most_literals}
 use Rattle.calculus.specs.Trails.{Entry}
 use Rattle.calculus.specs.States.{Stored}
@@ -10,10 +11,10 @@ use Rattle.tables.specs.declared.store.Row.{Row}
 use Rattle.tables.specs.declared.store.Store.{Store}
 
 abbrev pub trail_of : Trail → List Entry
-trail_of t = entries_of t.entries.items
+trail_of t = entries_of (items_of t.entries)
 
 abbrev pub literals_of : Clause → List ℤ
-literals_of c = c.literals.items
+literals_of c = items_of c.literals
 
 abbrev pub stored_of : Row → Stored
 stored_of r = record { literals = literals_of r.clause; rule = r.rule }

@@ -5,16 +5,16 @@ ghost use Rattle.calculus.specs.Steps.{literal_on};
 ghost use Rattle.tables.specs.Tables.{literals_of, Makes};
 
 use crate::literals::{has_number, holds_literal, literal_on};
-use arrayvec::ArrayVec;
+use fixedvec::FixedVec;
 
 mod resolving;
 
 pub const MOST_LITERALS: usize = 16;
 
 // A clause of at most 16 literals.
-#[derive(Clone, Default, Drop)]
+#[derive(Clone, Copy, Default)]
 pub struct Clause {
-    literals: ArrayVec<i8, MOST_LITERALS>,
+    literals: FixedVec<i8, MOST_LITERALS>,
 }
 
 impl Clause {
@@ -23,7 +23,7 @@ impl Clause {
         ensures { literals_of result ≡ [] }
     {
         Clause {
-            literals: ArrayVec::new(),
+            literals: FixedVec::new(),
         }
     }
 
@@ -31,7 +31,7 @@ impl Clause {
     pub fn of(literals: &[i8]) -> Option<Clause>
         ensures { Makes literals.now result }
     {
-        let literals = ArrayVec::try_from(literals).ok()?;
+        let literals = FixedVec::try_from(literals).ok()?;
         Some(Clause { literals })
     }
 

@@ -10,7 +10,7 @@ use calculus::limits::is_within;
 const MOST_CLAUSES: usize = 250;
 
 // A stored clause, and whether it is a rule.
-#[derive(Clone, Default, Drop)]
+#[derive(Clone, Copy, Default)]
 pub struct Row {
     clause: Clause,
     rule: bool,

@@ -1,6 +1,6 @@
 ghost use Rattle.std.specs.Prelude.{◌≡◌, ℕ, ◌<◌, ◌≤◌, true, MatchOption, Bool, not, neg_ℤ, filter};
 ghost use Rattle.std.specs.List.{range_with_len};
-ghost use Rattle.calculus.specs.Trails.{Content, entry_for, affirms, concerns, values, was_read, reason, on_trail, false_on, false_at, taken, valued, choices};
+ghost use Rattle.calculus.specs.Trails.{Content, entry_for, affirms, concerns, values, was_read, reason, on_trail, false_on, false_at, taken, valued, value, choices};
 ghost use Rattle.tables.specs.Views.{entry_of, entries_of, Finds};
 ghost use Rattle.tables.specs.Tables.{trail_of};
 ghost use Rattle.tables.specs.Keys.{key as key_of};
@@ -39,7 +39,7 @@ impl Trail {
         ensures { (p : Content → Bool) → ((e : Entry) (b : Bool) → F.post test e b → b ≡ p (entry_of e).content) → ((c : Content) → p c ≡ true → key_of c ≡ key) → Finds p (trail_of self.now) result }
     {
         let place = usize::from(self.places[usize::from(key)]);
-        let entry = *self.entries.get(place)?;
+        let entry = *self.entries.as_slice().get(place)?;
         if test(entry) { Some(entry) } else { None }
     }
 
@@ -90,6 +90,13 @@ impl Trail {
         ensures { result.items ≡ filter (λ j. not (valued j (trail_of self.now))) (range_with_len 1 measures) }
     {
         those(measures, |j| !self.is_valued(j))
+    }
+
+    // The numerator of the measure's value, or 0.
+    pub fn value(&self, measure: u8) -> i32
+        ensures { result ≡ value measure (trail_of self.now) }
+    {
+        self.find_value(measure).map_or(0, |e| e.numerator())
     }
 
     // The level of the measure's value, or 0.

@@ -6,7 +6,7 @@ ghost use Rattle.tables.specs.Tables.{trail_of};
 
 use super::{KEYS, PLACES, Trail};
 use crate::entry::Entry;
-use arrayvec::ArrayVec;
+use fixedvec::FixedVec;
 
 // Where the entry is a value: keeps this numerator for its measure, as the value comes or goes.
 fn keep(numerators: &mut [i32; PLACES], entry: Entry, numerator: i32)
@@ -26,7 +26,7 @@ impl Trail {
         ensures { trail_of result ≡ [] }
     {
         Trail {
-            entries: ArrayVec::new(),
+            entries: FixedVec::new(),
             places: [0; KEYS],
             count: 0,
             numerators: [0; PLACES],

@@ -1,5 +1,6 @@
 use Rattle.std.proofs.Common.{◌≡◌, ◌+ℤ◌, ◌*ℤ◌, pos, neg_ℤ, ◌-ℤ◌, get_or, sym, ap, ◌∙◌, arith, w32, to_z, of_z}
 use Rattle.std.proofs.lemmas.Int.{ints}
+use Rattle.fixedvec.specs.Items.{items_of}
 use Rattle.rows.specs.Rows.{coefficient_of}
 use Rattle.linear.specs.Denials.{denied}
 use Rattle.linear.proofs.Sums.{sized_abs}
@@ -8,7 +9,7 @@ use Rattle.linear.proofs.denials.Denial.add_to.Goals as goal
 
 pub returns-in-Turned-clause-sums : goal.returns-in-Turned-clause-sums
 returns-in-Turned-clause-sums c = λ j h.
-    let es = c.in-Turned.atom.now.entries.items.items in
+    let es = items_of c.in-Turned.atom.now.entries.items in
     let m = c.args.factor in
     let near = sized_abs 100000000 m c.requires.factor in
     let w = to_z w32 (of_z w32 m) in

@@ -1,5 +1,6 @@
 use Rattle.std.proofs.Common.{◌≡◌, ℕ, List, [], ◌∷◌, ◌++◌, ◌+◌, cond, true, refl, sym, ap, subst, ◌∙◌, arith}
 use Rattle.std.proofs.lemmas.List.{map-append}
+use Rattle.fixedvec.specs.Items.{items_of}
 use Rattle.calculus.specs.Trails.{choice, choices}
 use Rattle.calculus.proofs.Trailing.{choices_push}
 use Rattle.tables.specs.declared.entry as code
@@ -13,7 +14,7 @@ use Rattle.tables.proofs.Placing.{placed_prefix}
 use Rattle.tables.proofs.trail.Trail.pop.Goals as goal
 
 -- a trail of what is left, and then the entry that goes
-module _ (t : Trail) (left : List code.Entry.Entry) (e : code.Entry.Entry) (is : t.entries.items ≡ left ++ e ∷ []) where
+module _ (t : Trail) (left : List code.Entry.Entry) (e : code.Entry.Entry) (is : items_of t.entries ≡ left ++ e ∷ []) where
   parts : trail_of t ≡ entries_of left ++ entry_of e ∷ []
   parts = ap entries_of is ∙ map-append entry_of left (e ∷ [])
 
@@ -33,7 +34,7 @@ keep-requires-clause-in_range c = (entered c.args.self.now _ _ c.in-Some.ensures
 pub invariant_of-self : goal.invariant_of-self
 invariant_of-self c =
     let t = c.args.self.now in
-    let left = c.pop.new.self.items in
+    let left = items_of c.pop.new.self in
     let is = c.in-Some.ensures.items in
     let p = parts t left c.in-Some.entry is in
     record {
