@@ -32,10 +32,17 @@ judged_yes (Err f) own e = no_not_yes e
 abbrev ToldByLayer : TheoryFault → Type 0
 ToldByLayer f = (layer : ℕ) × (f ≡ theory.State NotAdmitted layer) × InPile layer
 
-judged_layer : (j : Answer) (b : Bool) → ((f : TheoryFault) → j ≡ Err f → ToldByLayer f) → (g : TheoryFault) → and_then (raised_result j) (cond b (Ok tt) (not_admitted 1)) ≡ Err g → ToldByLayer g
-judged_layer (Ok u) true h g e = yes_not_no e
-judged_layer (Ok u) false h g e = let same : theory.State NotAdmitted 1 ≡ g = cc in (1, sym same, first_in_pile)
-judged_layer (Err f) b h g e =
+-- whatever was answered below: a layer of the pile
+judged_layer : (j : Answer) (b : Bool) (g : TheoryFault) → and_then (raised_result j) (cond b (Ok tt) (not_admitted 1)) ≡ Err g → InPile (theory_code g).layer
+judged_layer (Ok u) true g e = yes_not_no e
+judged_layer (Ok u) false g e = no_in_pile first_in_pile e
+judged_layer (Err f) b g e = no_in_pile (raised_in_pile f) e
+
+-- and where that was told by a layer, so is this
+judged_told : (j : Answer) (b : Bool) → ((f : TheoryFault) → j ≡ Err f → ToldByLayer f) → (g : TheoryFault) → and_then (raised_result j) (cond b (Ok tt) (not_admitted 1)) ≡ Err g → ToldByLayer g
+judged_told (Ok u) true h g e = yes_not_no e
+judged_told (Ok u) false h g e = let same : theory.State NotAdmitted 1 ≡ g = cc in (1, sym same, first_in_pile)
+judged_told (Err f) b h g e =
     let same : raised f ≡ g = cc in
     let told = h f refl in
     (one_lower told.0, sym same ∙ ap raised told.1, lower_in_pile told.0)
@@ -198,7 +205,7 @@ module _ (K : Kind) (L : Lawful K) where
     declare_layer = λ m body. (declaring_fair m body).1;
     admit_layer = λ m body f e. passed_refused m (K.admit m.below body) f e;
     vouched_layer = λ m s ls hint. (vouching_fair m s ls hint).1;
-    admitted_layer = λ m xs d. judged_layer (K.admitted m.below xs d) (consistent m.applications xs) (L.admitted_layer m.below xs d);
+    admitted_layer = λ m xs d. judged_told (K.admitted m.below xs d) (consistent m.applications xs) (L.admitted_layer m.below xs d);
     local = λ m. L.local m.below;
     fair = λ m xs ys d e p q h y. let z = judged_yes (K.admitted m.below xs d) (judging K (consistent m.applications xs)) y in
         ap (λ j. and_then (raised_result j) (judging K (consistent m.applications ys))) (L.fair m.below xs ys d e p q h z.0)

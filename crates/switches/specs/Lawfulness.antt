@@ -11,9 +11,12 @@ use Rattle.calculus.specs.Kinds.{Lawful, OnlyCounted, InPile}
 use Rattle.calculus.proofs.Refusing.{refused_not_taken, taken_not_refused, no_not_yes, yes_not_no, first_in_pile, refused_in_pile, no_in_pile}
 use Rattle.switches.specs.Switches.{unknown, none_counted, switches_only}
 
-unknown_layer : (body : List ℕ) → InPile (theory_code (unknown body)).layer
-unknown_layer [] = first_in_pile
-unknown_layer (b ∷ bs) = first_in_pile
+unknown_layer : (body : List ℕ) → (theory_code (unknown body)).layer ≡ 1
+unknown_layer [] = refl
+unknown_layer (b ∷ bs) = refl
+
+unknown_in_pile : (body : List ℕ) → InPile (theory_code (unknown body)).layer
+unknown_in_pile body = subst InPile (sym (unknown_layer body)) first_in_pile
 
 many : (t : ℕ) → 0 < t → (layer : ℕ) × (none_counted false t ≡ inl (theory.Input OutOfRange layer))
 many t p = (1, cond-false (t == 0) (inr true) (inl (theory.Input OutOfRange 1)) (ne_eqb t 0 (λ e. omega arith)))
@@ -47,10 +50,10 @@ switches_lawful = record {
   admit_empty = λ m. (1, refl);
   vouch_empty = λ m s ls. (1, refl);
   count_layer = count_layer;
-  declare_layer = λ m body f e. refused_in_pile (unknown_layer body) e;
-  admit_layer = λ m body f e. refused_in_pile (unknown_layer body) e;
+  declare_layer = λ m body f e. refused_in_pile (unknown_in_pile body) e;
+  admit_layer = λ m body f e. refused_in_pile (unknown_in_pile body) e;
   admitted_layer = λ m xs d f e. yes_not_no e;
-  vouched_layer = λ m s ls hint f e. no_in_pile (unknown_layer hint) e;
+  vouched_layer = λ m s ls hint f e. no_in_pile (unknown_in_pile hint) e;
   local = λ m a xs ys d e p q h. refl;
   fair = λ m xs ys d e p q h y. y;
   absent_mentions = λ m a j e p. refl;

@@ -81,7 +81,8 @@ switch_refusals =
     ∷ record { after = full_store ++ Seal 1 ∷ Choose (negsuc 0) ∷ Conflict 1 ∷ []; calls = Jump (pos 0) ∷ Resolve 1 ∷ Concede ∷ []; answers = state Full ∷ state NotResolvable ∷ state NotAllowed ∷ [] }
     -- a literal that is not in the clause
     ∷ record { after = Counts 2 0 ∷ Rule (pos 1 ∷ []) ∷ Seal 1 ∷ Choose (negsuc 0) ∷ []; calls = Propagate 1 (pos 2) ∷ []; answers = state NotUnit ∷ [] }
-    -- a resolvent of 17 literals, and one of 16
+    -- a resolvent of 30 literals, one of 17, and one of 16
+    ∷ record { after = long_clauses 15; calls = Resolve 16 ∷ []; answers = state ResolventTooLong ∷ [] }
     ∷ record { after = long_clauses 2; calls = Resolve 16 ∷ []; answers = state ResolventTooLong ∷ [] }
     ∷ record { after = long_clauses 1; calls = Resolve 16 ∷ []; answers = done ∷ [] }
     -- the clause of a jump is stored, once
